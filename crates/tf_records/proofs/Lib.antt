@@ -1,0 +1,7 @@
+pub mod AccountBalanceBytes
+pub mod AccountBytes
+pub mod AccountFilterBytes
+pub mod Bytes
+pub mod Parts
+pub mod QueryFilterBytes
+pub mod TransferBytes
