@@ -1,0 +1,151 @@
+//! How runs end: the line and the status of each ending, a writer that fails, want of memory.
+
+use linked_list_allocator::LocalHeap;
+use std::io;
+use std::io::Write;
+use std::process::Abort;
+use std::test::Fail;
+use tf_main::{Ending, RunFault, report, run_script};
+
+const SCRIPT: &str = "# Two accounts and one transfer.
+accounts 1000
++ id=1 ledger=700 code=10
++ id=2 ledger=700 code=10
+end
+transfers 1000
++ id=5 debit_account_id=1 credit_account_id=2 amount=30 ledger=700 code=1
+end
+get_account_transfers account_id=1 limit=10 flags=debits|credits
+";
+
+const AFTER_ACCOUNTS: &str = "clock 1002\n";
+
+const AFTER_TRANSFERS: &str = "clock 1002\nclock 1003\n";
+
+const ANSWER: &str = "clock 1002
+clock 1003
+transfer id=5 debit_account_id=1 credit_account_id=2 amount=30 pending_id=0 user_data_128=0 user_data_64=0 user_data_32=0 timeout=0 ledger=700 code=1 flags=0 timestamp=1003
+rows 1
+";
+
+/// A writer that takes a few bytes in each call, so many in all, and then fails.
+#[derive(Drop)]
+struct Narrow {
+    taken: Vec<u8>,
+    room: usize,
+}
+
+impl Write for Narrow {
+    fn write(&mut self, buf: &[u8]) -> io::Result<usize> {
+        let count = buf.len().min(self.room).min(3);
+        if count == 0 {
+            return Err(io::Error::from(io::ErrorKind::StorageFull));
+        }
+        self.taken.extend_from_slice(&buf[..count])?;
+        self.room -= count;
+        Ok(count)
+    }
+
+    fn flush(&mut self) -> io::Result<()> {
+        Ok(())
+    }
+}
+
+/// The line and the status that are reported of an ending.
+fn assert_reported(rt: &(impl Abort + AllocGlobal), ending: &Ending, line: &str, status: u8) {
+    let mut written = Vec::new(rt.alloc());
+    assert_eq!(rt; report(ending, &mut written), status);
+    assert!(rt; written.as_slice() == line.as_bytes(), "{line}");
+}
+
+#[test]
+fn endings_have_their_line_and_status(rt: HostRuntime) -> Result<(), Fail> {
+    let usage = "usage: tigerforest run SCRIPT or tigerforest storm SCRIPT..\n";
+    assert_reported(&rt, &Ending::Done, "", 0);
+    assert_reported(&rt, &Ending::Usage, usage, 1);
+    let name = String::from_str(rt.alloc(), "no such file")?;
+    assert_reported(
+        &rt,
+        &Ending::CannotRead(name),
+        "cannot read no such file\n",
+        1,
+    );
+    let line = RunFault::BadLine {
+        line: u64::MAX,
+        column: 10,
+    };
+    let text = "bad line 18446744073709551615 column 10\n";
+    assert_reported(&rt, &Ending::Fault(line), text, 1);
+    let error = io::Error::from(io::ErrorKind::StorageFull);
+    assert_reported(
+        &rt,
+        &Ending::Fault(RunFault::CannotWrite(error)),
+        "cannot write\n",
+        1,
+    );
+    assert_reported(&rt, &Ending::Fault(RunFault::NoMemory), "no memory\n", 2);
+    Ok(())
+}
+
+#[test]
+fn report_keeps_to_the_line_where_the_writer_fails(rt: HostRuntime) {
+    let fault = Ending::Fault(RunFault::BadLine {
+        line: 12,
+        column: 34,
+    });
+    let line = b"bad line 12 column 34\n";
+    for room in 0..=line.len() {
+        let mut err = Narrow {
+            taken: Vec::new(rt.alloc()),
+            room,
+        };
+        assert_eq!(rt; report(&fault, &mut err), 1);
+        assert!(rt; err.taken.as_slice() == &line[..room]);
+    }
+}
+
+#[test]
+fn writer_that_fails_ends_the_run(rt: HostRuntime) {
+    for room in 0..ANSWER.len() {
+        let mut out = Narrow {
+            taken: Vec::new(rt.alloc()),
+            room,
+        };
+        match run_script(rt.alloc(), SCRIPT.as_bytes(), &mut out) {
+            Ok(()) => assert!(rt; false, "room for {room}"),
+            Err(fault) => assert_reported(&rt, &Ending::Fault(fault), "cannot write\n", 1),
+        }
+    }
+    let mut out = Narrow {
+        taken: Vec::new(rt.alloc()),
+        room: ANSWER.len(),
+    };
+    assert!(rt; run_script(rt.alloc(), SCRIPT.as_bytes(), &mut out).is_ok());
+    assert!(rt; out.taken.as_slice() == ANSWER.as_bytes());
+}
+
+#[test]
+fn want_of_memory_leaves_whole_answers(rt: HostRuntime) -> Result<(), Fail> {
+    let mut answered = 0u32;
+    for size in 1..64usize {
+        let heap = LocalHeap::new(rt.alloc(), size * 64)?;
+        let mut out = Vec::new(rt.alloc());
+        match run_script(&heap, SCRIPT.as_bytes(), &mut out) {
+            Ok(()) => {
+                assert!(rt; out.as_slice() == ANSWER.as_bytes());
+                answered = answered.saturating_add(1);
+            }
+            Err(fault) => {
+                assert_reported(&rt, &Ending::Fault(fault), "no memory\n", 2);
+                let written = out.as_slice();
+                assert!(rt;
+                    written.is_empty()
+                        || written == AFTER_ACCOUNTS.as_bytes()
+                        || written == AFTER_TRANSFERS.as_bytes()
+                );
+            }
+        }
+    }
+    assert!(rt; answered > 0 && answered < 63);
+    Ok(())
+}

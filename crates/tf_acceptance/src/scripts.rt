@@ -1,0 +1,63 @@
+//! Worked scripts print what they should.
+
+use crate::rows::ROWS;
+use std::test::Fail;
+use tf_main::{RunFault, run_script};
+
+#[test]
+fn worked_scripts_print_their_output(rt: HostRuntime) -> Result<(), Fail> {
+    for row in &ROWS {
+        let mut out = Vec::new(rt.alloc());
+        run_script(rt.alloc(), row.script.as_bytes(), &mut out)?;
+        assert!(rt; out.as_slice() == row.output.as_bytes(), "{}", row.name);
+    }
+    Ok(())
+}
+
+#[test]
+fn small_scripts_print_their_output(rt: HostRuntime) {
+    let table = [
+        ("", ""),
+        ("accounts 5\nend\n", "clock 5\n"),
+        (
+            "transfers 5\n+\n+ id=max\nend",
+            "0 id_must_not_be_zero\n1 id_must_not_be_int_max\nclock 7\n",
+        ),
+        (
+            "accounts max\nend\naccounts 1\nend\n",
+            "refused clock_exhausted\nclock 1\n",
+        ),
+        (
+            "get_account_transfers account_id=1 limit=0 flags=debits\n",
+            "rows 0\n",
+        ),
+    ];
+    for (script, answer) in table {
+        let mut out = Vec::new(rt.alloc());
+        let outcome = run_script(rt.alloc(), script.as_bytes(), &mut out);
+        assert!(rt; outcome.is_ok(), "{script}");
+        assert!(rt; out.as_slice() == answer.as_bytes(), "{script}");
+    }
+}
+
+#[test]
+fn a_script_with_a_fault_runs_nothing(rt: HostRuntime) {
+    let scripts = [
+        ("accounts 10\n", 2, 1),
+        ("accounts 10\n+ id=1 id=2\n", 2, 8),
+        ("accounts 1000\nend\naccounts 10\n+ id=1\n", 5, 1),
+        ("accounts 1000\nend\nstorm\n", 3, 1),
+        ("accounts 10\nend\n  accounts ten\n", 3, 12),
+        ("accounts 1000\nend\nget_account_transfers limit=x\n", 3, 23),
+        ("accounts 1000\nend\naccounts\n", 3, 9),
+    ];
+    for (script, at_line, at_column) in scripts {
+        let mut out = Vec::new(rt.alloc());
+        let outcome = run_script(rt.alloc(), script.as_bytes(), &mut out);
+        let Err(RunFault::BadLine { line, column }) = outcome else {
+            panic!(rt; "no fault in {script}");
+        };
+        assert_eq!(rt; (line, column), (at_line, at_column), "{script}");
+        assert!(rt; out.is_empty(), "{script}");
+    }
+}

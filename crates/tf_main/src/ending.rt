@@ -1,0 +1,100 @@
+//! How the program ends: its last line on standard error, and its exit status.
+
+ghost use Rattle.std.specs.Prelude.{◌≡◌, IsTrue};
+ghost use Rattle.std.specs.Io.KnownBytes.{Appends};
+ghost use Rattle.tf_main.specs.Ending.{AppendsFront, bad_line, ending_line, fault_line, fault_status, joined, status_of};
+
+use crate::RunFault;
+use itoa::Buffer;
+use std::io::Write;
+
+const USAGE: &str = "usage: tigerforest run SCRIPT or tigerforest storm SCRIPT..";
+
+/// How the program ended.
+#[derive(Debug, Drop)]
+pub enum Ending {
+    /// The script was run to its end.
+    Done,
+    /// The arguments were wrong.
+    Usage,
+    /// The file of this name couldn't be read.
+    CannotRead(String),
+    /// The run ended early.
+    Fault(RunFault),
+}
+
+/// Writes the ending's line to standard error, or to what stands for it, and answers the exit status:
+/// 0 after a whole run, 2 for want of memory, else 1. Takes no memory.
+///
+/// A writer that fails keeps the part of the line that it took: there is nobody left to tell.
+pub fn report<W: Write>(ending: &Ending, err: &mut W) -> u8
+    ensures status { result ≡ status_of ending.now }
+    ensures line { AppendsFront (W.contents err.old) (W.contents err.new) (ending_line ending.now) }
+{
+    match ending {
+        Ending::Done => 0,
+        Ending::Usage => {
+            write_pieces(&[USAGE, "\n"], err);
+            1
+        }
+        Ending::CannotRead(name) => {
+            write_pieces(&["cannot read ", name.as_str(), "\n"], err);
+            1
+        }
+        Ending::Fault(fault) => report_fault(fault, err),
+    }
+}
+
+fn report_fault<W: Write>(fault: &RunFault, err: &mut W) -> u8
+    ensures status { result ≡ fault_status fault.now }
+    ensures line { AppendsFront (W.contents err.old) (W.contents err.new) (fault_line fault.now) }
+{
+    match fault {
+        RunFault::NoMemory => {
+            write_pieces(&["no memory", "\n"], err);
+            2
+        }
+        RunFault::BadLine { line, column } => {
+            write_bad_line(*line, *column, err);
+            1
+        }
+        RunFault::CannotWrite(_) => {
+            write_pieces(&["cannot write", "\n"], err);
+            1
+        }
+    }
+}
+
+fn write_bad_line<W: Write>(line: u64, column: u64, out: &mut W)
+    ensures { AppendsFront (W.contents out.old) (W.contents out.new) (bad_line line column) }
+{
+    let (mut line_digits, mut column_digits) = (Buffer::new(), Buffer::new());
+    let (line, column) = (line_digits.format(line), column_digits.format(column));
+    write_pieces(&["bad line ", line, " column ", column, "\n"], out);
+}
+
+/// Writes texts one after another until all are written or the writer fails.
+fn write_pieces<W: Write>(pieces: &[&str], out: &mut W)
+    ensures { AppendsFront (W.contents out.old) (W.contents out.new) (joined pieces.now) }
+{
+    for piece in pieces {
+        if !write_front(piece.as_bytes(), out) {
+            return;
+        }
+    }
+}
+
+/// Writes bytes from the first on until the writer has taken them all, which is answered, or fails.
+fn write_front<W: Write>(bytes: &[u8], out: &mut W) -> bool
+    ensures whole { IsTrue result → Appends (W.contents out.old) (W.contents out.new) bytes.now }
+    ensures front { AppendsFront (W.contents out.old) (W.contents out.new) bytes.now }
+{
+    let mut rest = bytes;
+    while !rest.is_empty() {
+        match out.write(rest) {
+            Ok(0) | Err(_) => return false,
+            Ok(count) => rest = &rest[count..],
+        }
+    }
+    true
+}

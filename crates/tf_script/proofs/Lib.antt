@@ -1,0 +1,5 @@
+pub mod WordLemmas
+pub mod ValueLemmas
+pub mod FieldLemmas
+pub mod ReadingLemmas
+pub mod ScriptLemmas

@@ -1,0 +1,60 @@
+-- The lines of a script, one after another.
+use Rattle.std.proofs.Common.{◌≡◌, ℕ, suc, ◌+◌, ◌<◌, ◌≤◌, Bool, true, false, eqb, not, List, [], ◌∷◌, ◌++◌, length, take, drop, Option, Some, None, Result, Ok, Err, refl, sym, ap, ◌∙◌, arith}
+use Rattle.std.proofs.lemmas.List.{append-nil}
+use Rattle.std.specs.List.{position_or_len, before_first, after_first, onto_first}
+use Rattle.tf_script.specs.Lines.{lines_of}
+use Rattle.tf_script.specs.Statements.{◌<&>◌, statement_of}
+use Rattle.tf_script.specs.Script.{Place, Command, before, ended, commands_from}
+use Rattle.tf_script.specs.declared.statement.Batch.{Batch}
+use Rattle.tf_script.specs.declared.statement.Statement.{Statement}
+
+abbrev pub is_feed : ℕ → Bool
+is_feed byte = eqb byte 10
+
+-- the first line of a text that has a byte, and the lines after it
+abbrev first_and_rest : List ℕ → List (List ℕ)
+first_and_rest text = before_first is_feed text ∷ lines_of (after_first is_feed text)
+
+feed-here : (byte : ℕ) (rest : List ℕ) → is_feed byte ≡ true → lines_of (byte ∷ rest) ≡ first_and_rest (byte ∷ rest)
+feed-here byte rest e =
+    let first : position_or_len is_feed (byte ∷ rest) ≡ 0 = rw e refl in
+    let lines : lines_of (byte ∷ rest) ≡ [] ∷ lines_of rest = rw e refl in
+    lines ∙ sym (ap (λ n. take n (byte ∷ rest) ∷ lines_of (drop (n + 1) (byte ∷ rest))) first)
+
+feed-later : (byte : ℕ) (rest : List ℕ) → is_feed byte ≡ false → (onto_first byte (lines_of rest) ≡ (byte ∷ before_first is_feed rest) ∷ lines_of (after_first is_feed rest)) → lines_of (byte ∷ rest) ≡ first_and_rest (byte ∷ rest)
+feed-later byte rest e more =
+    let next : position_or_len is_feed (byte ∷ rest) ≡ suc (position_or_len is_feed rest) = rw e (omega arith) in
+    let lines : lines_of (byte ∷ rest) ≡ onto_first byte (lines_of rest) = rw e refl in
+    let moved : position_or_len is_feed (byte ∷ rest) + 1 ≡ suc (position_or_len is_feed rest + 1) = omega (arith, next) in
+    lines ∙ more
+    ∙ sym (ap (λ n. take n (byte ∷ rest) ∷ lines_of (after_first is_feed rest)) next)
+    ∙ sym (ap (λ n. before_first is_feed (byte ∷ rest) ∷ lines_of (drop n (byte ∷ rest))) moved)
+
+feed-step : (byte : ℕ) (rest : List ℕ) (t : Bool) → is_feed byte ≡ t → (is_feed byte ≡ false → onto_first byte (lines_of rest) ≡ (byte ∷ before_first is_feed rest) ∷ lines_of (after_first is_feed rest)) → lines_of (byte ∷ rest) ≡ first_and_rest (byte ∷ rest)
+feed-step byte rest true e more = feed-here byte rest e
+feed-step byte rest false e more = feed-later byte rest e (more e)
+
+lines_of-cons : (byte : ℕ) (rest : List ℕ) → lines_of (byte ∷ rest) ≡ first_and_rest (byte ∷ rest)
+lines_of-cons byte [] = feed-step byte [] (is_feed byte) refl (λ _. refl)
+lines_of-cons byte (next ∷ rest) =
+    feed-step byte (next ∷ rest) (is_feed byte) refl (λ _. ap (onto_first byte) (lines_of-cons next rest))
+
+lines_of-first : (text line rest : List ℕ) → 0 < length text → line ≡ before_first is_feed text → rest ≡ after_first is_feed text → lines_of text ≡ line ∷ lines_of rest
+lines_of-first [] line rest h front back = absurd (omega arith)
+lines_of-first (byte ∷ more) line rest h front back =
+    lines_of-cons byte more ∙ sym (ap (λ l. l ∷ lines_of (after_first is_feed (byte ∷ more))) front) ∙ sym (ap (λ r. line ∷ lines_of r) back)
+
+pub commands_from-fault : (batch : Option Batch) (number column : ℕ) (text line rest : List ℕ) → 0 < length text → line ≡ before_first is_feed text → rest ≡ after_first is_feed text
+    → Err column ≡ statement_of batch line → commands_from batch number (lines_of text) ≡ Err (record { line = number; column = column })
+commands_from-fault batch number column text line rest h front back fault =
+    ap (commands_from batch number) (lines_of-first text line rest h front back) ∙ rw (← fault, commands_from) refl
+
+pub commands_from-line : (batch : Option Batch) (number : ℕ) (statement : Statement) (text line rest : List ℕ) → 0 < length text → line ≡ before_first is_feed text → rest ≡ after_first is_feed text
+    → Ok statement ≡ statement_of batch line → commands_from batch number (lines_of text) ≡ before batch statement (λ opened. commands_from opened (number + 1) (lines_of rest))
+commands_from-line batch number statement text line rest h front back means =
+    ap (commands_from batch number) (lines_of-first text line rest h front back) ∙ rw (← means, commands_from) refl
+
+-- nothing is read
+pub then-nothing : (answer : Result (List Command) Place) → (answer <&> λ commands. [] ++ commands) ≡ answer
+then-nothing (Ok commands) = refl
+then-nothing (Err place) = refl

@@ -1,0 +1,15 @@
+use Rattle.std.proofs.Common.{◌≡◌, [], ◌∷◌, sym, ◌∙◌, None}
+use Rattle.std.proofs.lemmas.List.{map-append}
+use Rattle.tf_script.specs.Commands.{commands_of, command_view}
+use Rattle.tf_script.proofs.ReadingLemmas.{resumed-accounts-end, resumed-transfers-end}
+use Rattle.tf_script.proofs.script.Reading.close.Goals as goal
+
+pub returns-in_ok-push-in-Accounts : goal.returns-in_ok-push-in-Accounts
+returns-in_ok-push-in-Accounts g c = λ following.
+    rw (sym c.replace.ensures.value ∙ c.in-Accounts.is, c.replace.ensures.after, c.in_ok-push-in-Accounts.ensures.items, map-append)
+    (resumed-accounts-end (commands_of c.args.self.now.commands.items) c.in-Accounts.events.items c.in-Accounts.now (following None))
+
+pub returns-in_ok-push-in-Transfers : goal.returns-in_ok-push-in-Transfers
+returns-in_ok-push-in-Transfers g c = λ following.
+    rw (sym c.replace.ensures.value ∙ c.in-Transfers.is, c.replace.ensures.after, c.in_ok-push-in-Transfers.ensures.items, map-append)
+    (resumed-transfers-end (commands_of c.args.self.now.commands.items) c.in-Transfers.events.items c.in-Transfers.now (following None))

@@ -1,0 +1,11 @@
+pub mod Lines
+pub mod Words
+pub mod WordViews
+pub mod Values
+pub mod Fields
+pub mod Records
+pub mod Statements
+pub mod Script
+pub mod Commands
+pub mod Placed
+pub mod Reading
