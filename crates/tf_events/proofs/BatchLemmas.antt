@@ -23,7 +23,7 @@ pub run_push : (before : ℕ) (journal : List Entry) (e : Entry) → IsRun befor
 run_push before journal e run next in_range admitted = record {
   is_journal = journal_push before journal e run.is_journal run.up_to next (omega arith);
   lawful = lawful_push journal e run.lawful admitted;
-  up_to = up_to_push before journal e run.up_to next
+  up_to = up_to_push before journal e run.up_to next;
 }
 
 -- what a step that may fail leaves
@@ -33,13 +33,13 @@ run_stored before journal after e (Ok x) ok err run next = subst (IsRun (before 
 run_stored before journal after e (Err f) ok err run next = subst (IsRun (before + 1)) (sym err) (record {
   is_journal = run.is_journal;
   lawful = run.lawful;
-  up_to = up_to_later before (before + 1) journal (omega arith) run.up_to
+  up_to = up_to_later before (before + 1) journal (omega arith) run.up_to;
 })
 
 pub extends_more : (a b c : List Entry) → Extends a b → Extends b c → Extends a c
 extends_more a b c first second = record {
   more = first.more ++ second.more;
-  is = rw (second.is, first.is) (append_assoc a first.more second.more)
+  is = rw (second.is, first.is) (append_assoc a first.more second.more);
 }
 
 -- cutting an extension back to where it began
@@ -52,9 +52,9 @@ drop_read events i e within is = drop_more events i e within ∙ ap (λ x. x ∷
 -- the steps from an event on are its own and those from the next on
 pub next_step : {E : Type 0} (kind : Kind E) (journal : List Entry) (start i : ℕ) (events : List E) (e : E) → i < length events → e ≡ get_or events i e
     → let one = chain_step kind journal (record { index = i; timestamp = start + i + 1; event = e } ∷ []) in
-      let here = chains_step kind journal (chains_of (placed i (start + i + 1) (drop i events))) in
-      let rest = chains_step kind one.journal (chains_of (placed (i + 1) (start + (i + 1) + 1) (drop (i + 1) events))) in
-      (here.journal ≡ rest.journal) × (here.failures ≡ one.failures ++ rest.failures)
+    let here = chains_step kind journal (chains_of (placed i (start + i + 1) (drop i events))) in
+    let rest = chains_step kind one.journal (chains_of (placed (i + 1) (start + (i + 1) + 1) (drop (i + 1) events))) in
+    (here.journal ≡ rest.journal) × (here.failures ≡ one.failures ++ rest.failures)
 next_step kind journal start i events e within is =
     let left : drop i events ≡ e ∷ drop (i + 1) events = drop_read events i e within is in
     let later : start + (i + 1) + 1 ≡ start + i + 1 + 1 = omega arith in
@@ -68,7 +68,7 @@ left_from kind journal start i events = chains_step kind journal (chains_of (pla
 pub step_more : {E : Type 0} (kind : Kind E) (journal after : List Entry) (start i : ℕ) (events : List E) (e : E) (failures noted : List Failure) (whole : Step)
     → i < length events → e ≡ get_or events i e
     → let one = chain_step kind journal (record { index = i; timestamp = start + i + 1; event = e } ∷ []) in
-      after ≡ one.journal → noted ≡ failures ++ one.failures
+    after ≡ one.journal → noted ≡ failures ++ one.failures
     → (left_from kind journal start i events).journal ≡ whole.journal → failures ++ (left_from kind journal start i events).failures ≡ whole.failures
     → ((left_from kind after start (i + 1) events).journal ≡ whole.journal) × (noted ++ (left_from kind after start (i + 1) events).failures ≡ whole.failures)
 step_more kind journal after start i events e failures noted whole within is stored told all_stored all_noted =
@@ -77,5 +77,5 @@ step_more kind journal after start i events e failures noted whole within is sto
     let step = next_step kind journal start i events e within is in
     rw (stored, told) (
       sym step.0 ∙ all_stored,
-      append_assoc failures one.failures rest.failures ∙ ap (λ f. failures ++ f) (sym step.1) ∙ all_noted
+      append_assoc failures one.failures rest.failures ∙ ap (λ f. failures ++ f) (sym step.1) ∙ all_noted,
     )

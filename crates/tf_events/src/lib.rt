@@ -7,6 +7,8 @@
 
 mod batch;
 mod event;
+#[cfg(test)]
+mod tests;
 mod verdict;
 
 pub use batch::{run_accounts, run_transfers};

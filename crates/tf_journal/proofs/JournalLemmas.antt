@@ -28,7 +28,7 @@ pub journal_push : (before : ℕ) (journal : List Entry) (e : Entry) → IsJourn
     → timestamp_of e ≡ before + 1 → before < TIMESTAMP_MAX → IsJournal (journal ++ e ∷ [])
 journal_push before journal e is up_to next in_range = record {
   rising = rising_push 0 before journal e is.rising up_to (omega arith) (omega arith);
-  in_range = All-push (λ y. timestamp_of y ≤ TIMESTAMP_MAX) journal e is.in_range (omega arith)
+  in_range = All-push (λ y. timestamp_of y ≤ TIMESTAMP_MAX) journal e is.in_range (omega arith);
 }
 
 admitted_push : (before journal : List Entry) (e : Entry) → AreAdmitted before journal → IsAdmitted (before ++ journal) e → AreAdmitted before (journal ++ e ∷ [])

@@ -1,5 +1,5 @@
 -- Limits of balances along a journal.
-use Rattle.std.proofs.Common.{◌≡◌, ℕ, ◌+◌, ◌<◌, ◌≤◌, zero, suc, List, [], ◌∷◌, ◌++◌, take, length, refl, ap, sym, ◌⊎◌, inl, inr, subst, arith, ◌∙◌, Bool, true, false}
+use Rattle.std.proofs.Common.{◌≡◌, ℕ, ◌+◌, ◌<◌, ◌≤◌, zero, suc, List, [], ◌∷◌, ◌++◌, take, length, refl, ap, sym, ◌⊎◌, inl, inr, subst, arith, ◌∙◌, Bool, true, false, append_assoc, append-nil}
 use Rattle.std.proofs.lemmas.List.{take-append-le, take_all, length_push}
 use Rattle.std.proofs.lemmas.Bool.{cases_lt, eqb-true}
 use Rattle.std.proofs.Math.Seq.{take-length}
@@ -12,7 +12,7 @@ use Rattle.tf_records.specs.declared.limits.TheConstants.{AMOUNT_MAX}
 use Rattle.tf_journal.specs.declared.entry.Entry.{Entry}
 use Rattle.tf_journal.specs.declared.entry.Entry.TheVariants as entry
 use Rattle.tf_journal.specs.Balances.{IsWithinLimits, debits_posted, credits_posted, posted_debit, posted_credit}
-use Rattle.tf_journal.specs.Lawful.{IsAdmitted}
+use Rattle.tf_journal.specs.Lawful.{AreAdmitted, IsAdmitted, IsLawful}
 use Rattle.tf_journal.proofs.VerdictLemmas.{accepted_fits}
 
 -- the first of the first entries are the first of them all
@@ -79,3 +79,15 @@ pub pushed_limited : (journal after : List Entry) (e : Entry) (pushed : Bool) �
     → after ≡ (if pushed then journal ++ e ∷ [] else journal) → IsLimitedThroughout after
 pushed_limited journal after e true limited admitted is = subst IsLimitedThroughout (sym is) (push_limited journal e limited admitted)
 pushed_limited journal after e false limited admitted is = subst IsLimitedThroughout (sym is) limited
+
+-- entries that are admitted one after another keep the limits
+extended_limited : (before journal : List Entry) → IsWithinLimits before → AreAdmitted before journal → IsWithinLimits (before ++ journal)
+extended_limited before [] limited are = subst IsWithinLimits (sym (append-nil before)) limited
+extended_limited before (e ∷ journal) limited are =
+    subst IsWithinLimits (append_assoc before (e ∷ []) journal)
+    (extended_limited (before ++ e ∷ []) journal (admitted_limited before e limited are.0) are.1)
+
+-- every lawful journal is within limits
+pub lawful_limited : (journal : List Entry) → IsLawful journal → IsWithinLimits journal
+lawful_limited journal lawful =
+    extended_limited [] journal (record { debits = λ id. omega arith; credits = λ id. omega arith }) lawful

@@ -7,10 +7,14 @@
 #![tactic(auto)]
 
 mod entry;
+mod laws;
 mod ledger;
 mod plain;
+#[cfg(test)]
+mod tests;
 mod walk;
 
 pub use entry::Entry;
+pub use laws::lawful_journals_are_within_limits;
 pub use ledger::{Ledger, Mark};
 pub use plain::PlainLedger;

@@ -2,29 +2,10 @@
 
 ghost use Rattle.std.specs.Prelude.{◌≡◌, ◌≤◌};
 ghost use Rattle.tf_journal.specs.Balances.{credits_posted, debits_posted, posted_credit, posted_debit};
-ghost use Rattle.tf_journal.specs.Journal.{account_in, transfer_in};
 ghost use Rattle.tf_journal.specs.Lookup.{stored_account_of, transfer_of};
 
 use crate::Entry;
 use tf_records::{AMOUNT_MAX, Account, Transfer};
-
-fn as_account(entry: &Entry) -> Option<Account>
-    ensures { result ≡ account_in entry.now }
-{
-    match entry {
-        Entry::Account(account) => Some(*account),
-        Entry::Transfer(_) => None,
-    }
-}
-
-fn as_transfer(entry: &Entry) -> Option<Transfer>
-    ensures { result ≡ transfer_in entry.now }
-{
-    match entry {
-        Entry::Account(_) => None,
-        Entry::Transfer(transfer) => Some(*transfer),
-    }
-}
 
 /// The account with this id as it was stored.
 pub fn find_account(entries: &[Entry], id: u128) -> Option<Account>
@@ -32,7 +13,7 @@ pub fn find_account(entries: &[Entry], id: u128) -> Option<Account>
 {
     entries
         .iter()
-        .filter_map(as_account)
+        .filter_map(Entry::account)
         .find(|account| account.id == id)
 }
 
@@ -42,7 +23,7 @@ pub fn find_transfer(entries: &[Entry], id: u128) -> Option<Transfer>
 {
     entries
         .iter()
-        .filter_map(as_transfer)
+        .filter_map(Entry::transfer)
         .find(|transfer| transfer.id == id)
 }
 

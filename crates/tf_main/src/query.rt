@@ -2,7 +2,7 @@
 
 ghost use Rattle.std.specs.Prelude.{◌≡◌, ◌==◌, ◌&&◌, ◌||◌, IfOk, reverse, take};
 ghost use Rattle.std.specs.List.{filter as keep, list_all};
-ghost use Rattle.tf_journal.specs.Journal.{transfer_in, transfers_of};
+ghost use Rattle.tf_journal.specs.Journal.{transfers_of};
 ghost use Rattle.tf_journal.specs.Filter.{are_valid_bounds, asks_credits, asks_debits, has_flag, is_valid_filter, is_within, matches, meets};
 ghost use Rattle.tf_journal.specs.Answer.{answer_of};
 
@@ -41,7 +41,7 @@ fn first_matching<A: Allocator>(
 {
     journal
         .iter()
-        .filter_map(as_transfer)
+        .filter_map(Entry::transfer)
         .filter(|transfer| is_match(filter, transfer))
         .take(limit)
         .collect(alloc)
@@ -59,19 +59,10 @@ fn last_matching<A: Allocator>(
     journal
         .iter()
         .rev()
-        .filter_map(as_transfer)
+        .filter_map(Entry::transfer)
         .filter(|transfer| is_match(filter, transfer))
         .take(limit)
         .collect(alloc)
-}
-
-fn as_transfer(entry: &Entry) -> Option<Transfer>
-    ensures { result ≡ transfer_in entry.now }
-{
-    match entry {
-        Entry::Account(_) => None,
-        Entry::Transfer(transfer) => Some(*transfer),
-    }
 }
 
 fn asks(filter: &AccountFilter, mask: u32) -> bool

@@ -1,10 +1,9 @@
 -- The lines of a script, one after another.
-use Rattle.std.proofs.Common.{◌≡◌, ℕ, suc, ◌+◌, ◌<◌, ◌≤◌, Bool, true, false, eqb, not, List, [], ◌∷◌, ◌++◌, length, take, drop, Option, Some, None, Result, Ok, Err, refl, sym, ap, ◌∙◌, arith}
-use Rattle.std.proofs.lemmas.List.{append-nil}
+use Rattle.std.proofs.Common.{◌≡◌, ℕ, suc, ◌+◌, ◌<◌, Bool, true, false, eqb, List, [], ◌∷◌, ◌++◌, length, take, drop, Option, Result, Ok, Err, refl, sym, ap, ◌∙◌, arith}
 use Rattle.std.specs.List.{position_or_len, before_first, after_first, onto_first}
 use Rattle.tf_script.specs.Lines.{lines_of}
 use Rattle.tf_script.specs.Statements.{◌<&>◌, statement_of}
-use Rattle.tf_script.specs.Script.{Place, Command, before, ended, commands_from}
+use Rattle.tf_script.specs.Script.{Place, Command, before, commands_from}
 use Rattle.tf_script.specs.declared.statement.Batch.{Batch}
 use Rattle.tf_script.specs.declared.statement.Statement.{Statement}
 

@@ -1,6 +1,6 @@
 -- Places in lists, and numbers that decimal digits spell.
-use Rattle.std.proofs.Common.{◌≡◌, ℕ, ◌+◌, ◌-◌, ◌*◌, ◌^◌, ◌%◌, ◌<◌, ◌≤◌, suc, Bool, true, false, cond, leb, eqb, List, [], ◌∷◌, length, get_or, take, drop, map, fold, not, bit_or, ⊎_elim, Option, Some, None, refl, sym, ap, ◌∙◌, arith, rules, IsTrue}
-use Rattle.std.specs.List.{position_from, position_or_len, prefix_len, before_first, after_first, slice_split, onto_first}
+use Rattle.std.proofs.Common.{◌≡◌, ℕ, ◌+◌, ◌-◌, ◌*◌, ◌<◌, ◌≤◌, suc, Bool, true, false, cond, leb, eqb, List, [], ◌∷◌, length, get_or, take, drop, map, fold, not, bit_or, ⊎_elim, Some, None, refl, sym, ap, ◌∙◌, arith}
+use Rattle.std.specs.List.{position_from, position_or_len, before_first, after_first, slice_split, onto_first}
 use Rattle.std.proofs.lemmas.List.{at_drop_more, at_drop_all}
 use Rattle.std.proofs.lemmas.Bool.Decides.{nat_tests}
 use Rattle.std.proofs.lemmas.Bool.{cases_lt}

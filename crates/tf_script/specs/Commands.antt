@@ -1,5 +1,5 @@
 -- The code's commands and refusals, seen as those of a script.
-use Rattle.std.specs.Prelude.{◌≡◌, ℕ, List, map, Result, Err}
+use Rattle.std.specs.Prelude.{◌≡◌, List, map, Result, Err}
 use Rattle.tf_records.specs.declared.refusal.Refusal.{Refusal}
 use Rattle.tf_records.specs.declared.refusal.Refusal.TheVariants.{NoMemory, BadLine}
 use Rattle.tf_script.specs.Script.{Place, Command, accounts, transfers, get_account_transfers}

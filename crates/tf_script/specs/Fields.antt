@@ -1,7 +1,6 @@
 -- The fields of a record, and what a line's words FIELD=VALUE give them.
 use Rattle.std.specs.Prelude.{ℕ, zero, suc, ◌+◌, ◌≤◌, List, [], ◌∷◌, Option, Some, None, Result, Ok, Err, if◌then◌else◌, ◌==◌, map, take, drop, replicate, length, is_some, slice_get, slice_set, slice_index_or, unwrap_or, position, nat_lt, Bool}
 use Rattle.std.specs.List.{list_all}
-use Rattle.std.specs.Str.{bytes_eq}
 use Rattle.std.specs.Borrow.{Bor}
 use Rattle.tf_script.specs.Values.{◌>>=◌, place_of, number_of, flags_of, at_most}
 use Rattle.tf_script.specs.Words.{Word}

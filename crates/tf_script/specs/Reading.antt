@@ -1,5 +1,5 @@
 -- What has been read of a script, and what follows it.
-use Rattle.std.specs.Prelude.{◌≡◌, ℕ, List, [], ◌∷◌, ◌++◌, Option, Some, None, Result}
+use Rattle.std.specs.Prelude.{◌≡◌, List, [], ◌∷◌, ◌++◌, Option, Some, None, Result}
 use Rattle.tf_records.specs.declared.account.Account.{Account}
 use Rattle.tf_records.specs.declared.transfer.Transfer.{Transfer}
 use Rattle.tf_script.specs.Statements.{◌<&>◌}
@@ -35,10 +35,10 @@ with_open (Transfers now events) commands = with_transfers events.items commands
 
 -- what is read, and what follows it
 abbrev pub resumed : {A : Type 0} → Reading A → Result (List Command) Place → Result (List Command) Place
-resumed reading following = following <&> λ commands. commands_of reading.commands.items ++ with_open reading.open commands
+resumed reading following = following <&> λ commands. commands_of reading.commands.items ++ with_open reading.unfinished commands
 
 -- new is old and one line, whatever follows that line
 abbrev pub Adds : {A : Type 0} → Reading A → Reading A → Statement → Type 0
 Adds old new statement =
     (following : Option Batch → Result (List Command) Place)
-    → resumed new (following (batch_of new.open)) ≡ resumed old (before (batch_of old.open) statement following)
+    → resumed new (following (batch_of new.unfinished)) ≡ resumed old (before (batch_of old.unfinished) statement following)

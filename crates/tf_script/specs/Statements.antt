@@ -1,6 +1,5 @@
 -- What one line of a script means.
 use Rattle.std.specs.Prelude.{ℕ, ◌+◌, ◌-◌, ◌^◌, List, [], ◌∷◌, Option, Some, None, Result, Ok, Err, if◌then◌else◌, ◌==◌, length, slice_index, codes}
-use Rattle.std.specs.Option.{ok_or}
 use Rattle.std.specs.Str.{bytes_eq}
 use Rattle.tf_script.specs.Words.{Word, words_from}
 use Rattle.tf_script.specs.Values.{number_of}

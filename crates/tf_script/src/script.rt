@@ -39,13 +39,13 @@ impl<A: Allocator> Open<A> {
 struct Reading<A: Allocator> {
     /// The commands before the open batch.
     commands: Vec<Command<A>, A>,
-    open: Open<A>,
+    unfinished: Open<A>,
 }
 
 impl<A: Allocator + Clone> Reading<A> {
     /// Adds what a line means.
     fn add(&mut self, statement: Statement) -> Result<(), AllocError>
-        requires { CanStand (batch_of self.old.open) statement }
+        requires { CanStand (batch_of self.old.unfinished) statement }
         ensures { OnOk result (Adds self.old self.new statement) }
     {
         match statement {
@@ -60,11 +60,11 @@ impl<A: Allocator + Clone> Reading<A> {
 
     /// Begins a batch.
     fn open_batch(&mut self, batch: Batch) -> Result<(), AllocError>
-        requires { CanStand (batch_of self.old.open) (Statement.Opens batch) }
+        requires { CanStand (batch_of self.old.unfinished) (Statement.Opens batch) }
         ensures { OnOk result (Adds self.old self.new (Statement.Opens batch)) }
     {
         let alloc = self.commands.allocator().clone()?;
-        self.open = match batch {
+        self.unfinished = match batch {
             Batch::Accounts { now } => Open::Accounts {
                 now,
                 events: Vec::new(alloc),
@@ -79,10 +79,10 @@ impl<A: Allocator + Clone> Reading<A> {
 
     /// Adds an event to the open batch of accounts.
     fn add_account(&mut self, event: Account) -> Result<(), AllocError>
-        requires { CanStand (batch_of self.old.open) (Statement.AccountEvent event) }
+        requires { CanStand (batch_of self.old.unfinished) (Statement.AccountEvent event) }
         ensures { OnOk result (Adds self.old self.new (Statement.AccountEvent event)) }
     {
-        if let Open::Accounts { events, .. } = &mut self.open {
+        if let Open::Accounts { events, .. } = &mut self.unfinished {
             events.push(event)?;
         }
         Ok(())
@@ -90,10 +90,10 @@ impl<A: Allocator + Clone> Reading<A> {
 
     /// Adds an event to the open batch of transfers.
     fn add_transfer(&mut self, event: Transfer) -> Result<(), AllocError>
-        requires { CanStand (batch_of self.old.open) (Statement.TransferEvent event) }
+        requires { CanStand (batch_of self.old.unfinished) (Statement.TransferEvent event) }
         ensures { OnOk result (Adds self.old self.new (Statement.TransferEvent event)) }
     {
-        if let Open::Transfers { events, .. } = &mut self.open {
+        if let Open::Transfers { events, .. } = &mut self.unfinished {
             events.push(event)?;
         }
         Ok(())
@@ -101,10 +101,10 @@ impl<A: Allocator + Clone> Reading<A> {
 
     /// Ends the open batch.
     fn close(&mut self) -> Result<(), AllocError>
-        requires { CanStand (batch_of self.old.open) Statement.Closes }
+        requires { CanStand (batch_of self.old.unfinished) Statement.Closes }
         ensures { OnOk result (Adds self.old self.new Statement.Closes) }
     {
-        match std::mem::replace(&mut self.open, Open::Nothing) {
+        match std::mem::replace(&mut self.unfinished, Open::Nothing) {
             Open::Nothing => {}
             Open::Accounts { now, events } => self
                 .commands
@@ -118,7 +118,7 @@ impl<A: Allocator + Clone> Reading<A> {
 
     /// Adds a query.
     fn add_query(&mut self, filter: AccountFilter) -> Result<(), AllocError>
-        requires { CanStand (batch_of self.old.open) (Statement.GetAccountTransfers filter) }
+        requires { CanStand (batch_of self.old.unfinished) (Statement.GetAccountTransfers filter) }
         ensures { OnOk result (Adds self.old self.new (Statement.GetAccountTransfers filter)) }
     {
         self.commands.push(Command::GetAccountTransfers(filter))?;
@@ -145,13 +145,13 @@ pub fn parse<A: Allocator + Clone>(alloc: A, script: &[u8]) -> Result<Vec<Comman
 {
     let mut reading = Reading {
         commands: Vec::new(alloc),
-        open: Open::Nothing,
+        unfinished: Open::Nothing,
     };
     let mut rest = script;
     let mut number: u64 = 1;
     while !rest.is_empty() {
         let (line, after) = first_line(rest);
-        match read_line(reading.open.batch(), line) {
+        match read_line(reading.unfinished.batch(), line) {
             Ok(statement) => reading.add(statement)?,
             Err(column) => return Err(Refusal::BadLine {
                 line: number,
@@ -161,7 +161,7 @@ pub fn parse<A: Allocator + Clone>(alloc: A, script: &[u8]) -> Result<Vec<Comman
         number += 1;
         rest = after;
     }
-    if reading.open.batch().is_some() {
+    if reading.unfinished.batch().is_some() {
         return Err(Refusal::BadLine {
             line: number,
             column: 1,

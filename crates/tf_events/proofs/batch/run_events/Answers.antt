@@ -11,8 +11,8 @@ loop-i-preserved g c =
     let step = c.in_ok-run_event.ensures in
     let whole = chains_step g.E.Event.kind (journal c.args.ledger.now) (chains_of (placed 0 (c.args.start + 1) c.args.events.now)) in
     let more = step_more g.E.Event.kind (journal c.loop-i.ledger) (journal c.run_event.new.ledger) c.args.start c.loop-i.i c.args.events.now
-          c.index-events-i.result c.loop-i.failures.items c.run_event.new.failures.items whole
-          (omega arith) c.index-events-i.is step.stored step.noted so_far.stored so_far.noted in
+    c.index-events-i.result c.loop-i.failures.items c.run_event.new.failures.items whole
+    (omega arith) c.index-events-i.is step.stored step.noted so_far.stored so_far.noted in
     record {
       stored = more.0;
       noted = more.1;

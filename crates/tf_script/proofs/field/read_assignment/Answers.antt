@@ -1,5 +1,4 @@
 use Rattle.std.proofs.Common.{◌≤◌, subst, sym}
-use Rattle.tf_script.specs.Fields.{field_of, greatest_at}
 use Rattle.tf_script.proofs.FieldLemmas.{greatest_at-map}
 use Rattle.tf_script.proofs.field.read_assignment.Goals as goal
 

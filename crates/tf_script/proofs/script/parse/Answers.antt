@@ -20,7 +20,7 @@ returns-in-Err g c =
     let here : 0 < length c.loop-rest.rest.now = grind (arith, nat_tests) in
     sym c.loop-rest.invariant.read
     ∙ ap (resumed c.loop-rest.reading)
-    (commands_from-fault (batch_of c.loop-rest.reading.open) c.loop-rest.number c.in-Err.column c.loop-rest.rest.now _ _ here
+    (commands_from-fault (batch_of c.loop-rest.reading.unfinished) c.loop-rest.number c.in-Err.column c.loop-rest.rest.now _ _ here
     c.first_line.ensures.line c.first_line.ensures.rest (c.in-Err.ensures.value ∙ ap (λ batch. statement_of batch c.first_line.result.0.now) c.batch.ensures))
 
 pub loop-rest-preserved : goal.loop-rest-preserved
@@ -33,7 +33,7 @@ loop-rest-preserved g c =
       read =
           c.in_ok-add-in-Ok.ensures (λ opened. commands_from opened (c.loop-rest.number + 1) (lines_of c.first_line.result.1.now))
           ∙ sym (ap (resumed c.loop-rest.reading)
-          (commands_from-line (batch_of c.loop-rest.reading.open) c.loop-rest.number c.in-Ok.statement c.loop-rest.rest.now _ _ here
+          (commands_from-line (batch_of c.loop-rest.reading.unfinished) c.loop-rest.number c.in-Ok.statement c.loop-rest.rest.now _ _ here
           c.first_line.ensures.line c.first_line.ensures.rest (c.in-Ok.ensures.value ∙ ap (λ batch. statement_of batch c.first_line.result.0.now) c.batch.ensures)))
           ∙ c.loop-rest.invariant.read;
     }

@@ -9,7 +9,7 @@ invariant-loop-rest g l = record {
   -- each line took a byte
   numbered : l.number + length l.rest ≤ length l.script + 1;
   -- what is read and the lines that are left are the script
-  read : resumed l.reading (commands_from (batch_of l.reading.open) l.number (lines_of l.rest)) ≡ script_of l.script;
+  read : resumed l.reading (commands_from (batch_of l.reading.unfinished) l.number (lines_of l.rest)) ≡ script_of l.script;
 }
 
 abbrev pub decreases-loop-rest : goal.decreases-loop-rest

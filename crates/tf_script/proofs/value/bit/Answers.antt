@@ -1,9 +1,9 @@
-use Rattle.std.proofs.Common.{◌≡◌, ℕ, ◌^◌, ◌<◌, true, List, Some, None, get_or, map, sym, ap, ◌∙◌, arith, option_map}
+use Rattle.std.proofs.Common.{◌≡◌, ℕ, ◌^◌, true, List, Some, None, get_or, sym, ap, ◌∙◌, arith, option_map}
 use Rattle.std.proofs.lemmas.Nat.{one_shl}
 use Rattle.std.specs.Str.{bytes_eq}
 use Rattle.std.specs.List.{position_from}
 use Rattle.std.specs.Borrow.{Bor}
-use Rattle.tf_script.specs.Values.{place_of, bit_of}
+use Rattle.tf_script.specs.Values.{place_of}
 use Rattle.tf_script.specs.Fields.{texts_of}
 use Rattle.tf_script.proofs.ValueLemmas.{position_from-map, position_from-found, position_from-end}
 use Rattle.tf_script.proofs.value.bit.Goals as goal

@@ -1,4 +1,4 @@
-use Rattle.std.proofs.Common.{◌≡◌, ℕ, ◌+◌, ◌<◌, drop, fold, get_or, sym, ◌∙◌, arith}
+use Rattle.std.proofs.Common.{◌+◌, ◌<◌, drop, fold, get_or, sym, ◌∙◌, arith}
 use Rattle.std.proofs.lemmas.List.{at_drop_more}
 use Rattle.tf_script.specs.Values.{decimal}
 use Rattle.tf_script.proofs.ValueLemmas.{next_digit, fold-next_digit-ge, at_most-above}

@@ -1,4 +1,4 @@
-use Rattle.std.proofs.Common.{◌≡◌, sym, ap, ◌∙◌, bit_or}
+use Rattle.std.proofs.Common.{sym, ap, ◌∙◌, bit_or}
 use Rattle.std.specs.List.{slice_split}
 use Rattle.tf_script.specs.Fields.{texts_of}
 use Rattle.tf_script.specs.Values.{bit_of, bits_with, flags_of}

@@ -1,6 +1,6 @@
-use Rattle.std.proofs.Common.{◌≡◌, [], ◌∷◌, sym, ◌∙◌, None}
+use Rattle.std.proofs.Common.{sym, ◌∙◌, None}
 use Rattle.std.proofs.lemmas.List.{map-append}
-use Rattle.tf_script.specs.Commands.{commands_of, command_view}
+use Rattle.tf_script.specs.Commands.{commands_of}
 use Rattle.tf_script.proofs.ReadingLemmas.{resumed-accounts-end, resumed-transfers-end}
 use Rattle.tf_script.proofs.script.Reading.close.Goals as goal
 
