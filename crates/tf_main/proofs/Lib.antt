@@ -1,3 +1,3 @@
-pub mod Reversed
 pub mod Stops
 pub mod Fronts
+pub mod Kept

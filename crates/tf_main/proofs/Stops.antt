@@ -1,10 +1,10 @@
 -- A run that stops at a command for want of memory has written the answers of the commands before it.
-use Rattle.std.proofs.Common.{◌≡◌, ℕ, List, Option, None, Some, take, refl, ◌∙◌}
+use Rattle.std.proofs.Common.{◌≡◌, ℕ, List, Option, None, Some, take, ◌∙◌}
 use Rattle.std.specs.Io.KnownBytes.{Appends, Keeps}
 use Rattle.tf_script.specs.Script.{Command}
 use Rattle.tf_main.specs.declared.fault.RunFault.{RunFault}
 use Rattle.tf_main.specs.declared.fault.RunFault.TheVariants.{NoMemory, BadLine, CannotWrite}
-use Rattle.tf_main.specs.Script.{AnswersSome, StopsAfterSome, StopsBefore, script_answer}
+use Rattle.tf_main.specs.Script.{StopsAfterSome, StopsBefore, script_answer}
 
 -- what was appended before is all that was appended, where nothing was appended since
 pub Appends-Keeps : (old mid new : Option (List ℕ)) (bytes : List ℕ) → Appends old mid bytes → Keeps mid new → Appends old new bytes

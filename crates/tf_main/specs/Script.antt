@@ -1,14 +1,13 @@
 -- What a script's commands answer, and the ledger that they leave.
-use Rattle.std.specs.Prelude.{◌≡◌, ℕ, List, [], ◌++◌, length, fold, take, codes, Option, Some, None, Result, Ok, Err, MatchResult, IsOk, ⊤}
+use Rattle.std.specs.Prelude.{◌≡◌, ℕ, List, [], ◌++◌, length, fold, take, Option, Some, None, Ok, Err, MatchResult, IsOk, ⊤}
 use Rattle.std.specs.Io.KnownBytes.{Keeps, Appends}
 use Rattle.tf_records.specs.declared.refusal.Refusal.{Refusal}
-use Rattle.tf_records.specs.declared.refusal.Refusal.TheVariants as refusal
 use Rattle.tf_journal.specs.declared.entry.Entry.{Entry}
 use Rattle.tf_journal.specs.Answer.{answer_of}
 use Rattle.tf_events.specs.Chain.{Kind}
 use Rattle.tf_events.specs.Chain as kind
 use Rattle.tf_events.specs.Batch.{batch_clock, batch_refusal, batch_step}
-use Rattle.tf_script.specs.Script.{Command, Place, accounts, transfers, get_account_transfers, script_of}
+use Rattle.tf_script.specs.Script.{Command, accounts, transfers, get_account_transfers, script_of}
 use Rattle.tf_main.specs.declared.fault.RunFault.{RunFault}
 use Rattle.tf_main.specs.declared.fault.RunFault.TheVariants.{NoMemory, BadLine, CannotWrite}
 use Rattle.tf_main.specs.Line.{batch_lines, query_lines, refusal_line, transfer_line}

@@ -45,6 +45,7 @@ pub fn report<W: Write>(ending: &Ending, err: &mut W) -> u8
     }
 }
 
+/// Writes the line of a fault and answers its exit status.
 fn report_fault<W: Write>(fault: &RunFault, err: &mut W) -> u8
     ensures status { result ≡ fault_status fault.now }
     ensures line { AppendsFront (W.contents err.old) (W.contents err.new) (fault_line fault.now) }
@@ -65,6 +66,7 @@ fn report_fault<W: Write>(fault: &RunFault, err: &mut W) -> u8
     }
 }
 
+/// Writes the line of a script's first fault.
 fn write_bad_line<W: Write>(line: u64, column: u64, out: &mut W)
     ensures { AppendsFront (W.contents out.old) (W.contents out.new) (bad_line line column) }
 {

@@ -9,6 +9,7 @@ use std::io;
 use std::io::Write;
 use tf_records::{Failure, Refusal};
 
+/// Writes `INDEX RESULT`.
 fn write_failure<W: Write>(failure: &Failure, out: &mut W) -> io::Result<()>
     ensures { OnOk result (Appends (W.contents out.old) (W.contents out.new) (failure_line failure.now)) }
 {

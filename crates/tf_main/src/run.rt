@@ -22,6 +22,10 @@ use tf_script::{Command, parse};
 /// Runs a script over an empty ledger and writes what its commands print. The whole script is read
 /// before any of it is run.
 ///
+/// Takes memory for the script's commands, for what they store, for each batch's failed events and
+/// each query's rows; printing takes none. Each event and each query costs walks over all that is
+/// stored.
+///
 /// # Errors
 ///
 /// `RunFault::BadLine` with the place of the script's first fault, if it has one: nothing was run.
@@ -42,6 +46,7 @@ pub fn run_script<A: Allocator + Drop, W: Write>(
     }
 }
 
+/// Runs commands over an empty ledger, one after another up to the first fault.
 fn run_commands<A: Allocator, B: Allocator, W: Write>(
     alloc: &A,
     commands: &[Command<B>],
@@ -59,6 +64,7 @@ fn run_commands<A: Allocator, B: Allocator, W: Write>(
     Ok(())
 }
 
+/// Runs one command and writes what it prints.
 fn run_command<A: Allocator, B: Allocator, C: Allocator, W: Write>(
     alloc: &A,
     ledger: &mut PlainLedger<B>,

@@ -1,4 +1,3 @@
-use Rattle.std.proofs.Common.{arith, rules}
 use Rattle.tf_main.proofs.Fronts.{AppendsFront-joined}
 use Rattle.tf_main.proofs.ending.write_pieces.Goals as goal
 
