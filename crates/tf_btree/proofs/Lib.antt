@@ -1,0 +1,9 @@
+pub mod Runs
+pub mod Entries
+pub mod Order
+pub mod Parts
+pub mod Placed
+pub mod Edited
+pub mod Children
+pub mod Count
+pub mod RunLemmas

@@ -1,0 +1,297 @@
+-- Rows in key order: where a key lies among them, and what an edit at that key makes of them.
+use Rattle.std.proofs.Common.{◌≡◌, ℕ, suc, ◌+◌, cond, is_some, length, arith, List, [], ◌∷◌, ◌++◌, Some, None, Option, Bool, true, false, not, refl, sym, ◌∙◌, ap, subst, append_assoc}
+use Rattle.std.specs.Prelude.{filter, find}
+use Rattle.std.specs.Cmp.{IsTotalOrder}
+use Rattle.std.specs.Option.{option_or, option_map}
+use Rattle.std.specs.declared.cmp.Ordering.{Ordering}
+use Rattle.std.specs.declared.cmp.Ordering.TheVariants.{Less, Equal, Greater}
+use Rattle.std.specs.Ordering.{is_lt, is_eq, is_gt, ordering_reverse}
+use Rattle.std.proofs.lemmas.List.{append-nil, length-append}
+use Rattle.std.proofs.lemmas.List.Elements.{filter-append}
+use Rattle.std.proofs.lemmas.List.Folds.{find-append}
+use Rattle.tf_btree.specs.Node.{first_key}
+use Rattle.tf_btree.specs.Place.{AllBefore, AllBeyond, Among}
+use Rattle.tf_btree.specs.Rows.{AllAfter, IsRising, rows_below, rows_above, rows_from, rows_upto, value_at, with_row, without_row}
+
+module _ {K : Type 0} (cmp : K → K → Ordering) (total : IsTotalOrder cmp) where
+  greater_from_less : (x y : K) → cmp x y ≡ Less → cmp y x ≡ Greater
+  greater_from_less x y e = total.antisymm y x ∙ ap ordering_reverse e
+
+  less_from_greater : (x y : K) → cmp x y ≡ Greater → cmp y x ≡ Less
+  less_from_greater x y e = total.antisymm y x ∙ ap ordering_reverse e
+
+  -- below what is not above k is below k
+  below_upto : (y x k : K) (o : Ordering) → cmp x k ≡ o → is_gt o ≡ false → cmp y x ≡ Less → cmp y k ≡ Less
+  below_upto y x k Less e h l = total.trans y x k l e
+  below_upto y x k Equal e h l = less_from_greater k y (sym (total.congr x k y e) ∙ greater_from_less y x l)
+  below_upto y x k Greater e h l = absurd (let t : true ≡ false = h in cc)
+
+  -- above what is not below k is above k
+  beyond_from : (f r k : K) (o : Ordering) → cmp f k ≡ o → is_lt o ≡ false → cmp f r ≡ Less → cmp r k ≡ Greater
+  beyond_from f r k Less e h l = absurd (let t : true ≡ false = h in cc)
+  beyond_from f r k Equal e h l = greater_from_less k r (sym (total.congr f k r e) ∙ l)
+  beyond_from f r k Greater e h l = greater_from_less k r (total.trans k f r (less_from_greater f k e) l)
+
+  less_than : (o : Ordering) → is_lt o ≡ true → o ≡ Less
+  less_than Less e = refl
+  less_than Equal e = absurd (let t : false ≡ true = e in cc)
+  less_than Greater e = absurd (let t : false ≡ true = e in cc)
+
+  greater_is : (o : Ordering) → is_gt o ≡ true → o ≡ Greater
+  greater_is Less e = absurd (let t : false ≡ true = e in cc)
+  greater_is Equal e = absurd (let t : false ≡ true = e in cc)
+  greater_is Greater e = refl
+
+  not_less_from_greater : (o : Ordering) → is_gt o ≡ true → is_lt o ≡ false
+  not_less_from_greater Less e = absurd (let t : false ≡ true = e in cc)
+  not_less_from_greater Equal e = refl
+  not_less_from_greater Greater e = refl
+
+module _ {K V : Type 0} (cmp : K → K → Ordering) where
+  pub AllBefore-append : (k : K) (xs ys : List (K × V)) → AllBefore cmp k xs → AllBefore cmp k ys → AllBefore cmp k (xs ++ ys)
+  AllBefore-append k [] ys a b = b
+  AllBefore-append k (x ∷ xs) ys a b = (a.0, AllBefore-append k xs ys a.1 b)
+
+  pub AllBeyond-append : (k : K) (xs ys : List (K × V)) → AllBeyond cmp k xs → AllBeyond cmp k ys → AllBeyond cmp k (xs ++ ys)
+  AllBeyond-append k [] ys a b = b
+  AllBeyond-append k (x ∷ xs) ys a b = (a.0, AllBeyond-append k xs ys a.1 b)
+
+  pub AllBeyond-right : (k : K) (xs ys : List (K × V)) → AllBeyond cmp k (xs ++ ys) → AllBeyond cmp k ys
+  AllBeyond-right k [] ys a = a
+  AllBeyond-right k (x ∷ xs) ys a = AllBeyond-right k xs ys a.1
+
+  AllAfter-left : (k : K) (xs ys : List (K × V)) → AllAfter cmp k (xs ++ ys) → AllAfter cmp k xs
+  AllAfter-left k [] ys a = tt
+  AllAfter-left k (x ∷ xs) ys a = (a.0, AllAfter-left k xs ys a.1)
+
+  pub AllAfter-right : (k : K) (xs ys : List (K × V)) → AllAfter cmp k (xs ++ ys) → AllAfter cmp k ys
+  AllAfter-right k [] ys a = a
+  AllAfter-right k (x ∷ xs) ys a = AllAfter-right k xs ys a.1
+
+  AllAfter-append : (k : K) (xs ys : List (K × V)) → AllAfter cmp k xs → AllAfter cmp k ys → AllAfter cmp k (xs ++ ys)
+  AllAfter-append k [] ys a b = b
+  AllAfter-append k (x ∷ xs) ys a b = (a.0, AllAfter-append k xs ys a.1 b)
+
+  pub IsRising-left : (xs ys : List (K × V)) → IsRising cmp (xs ++ ys) → IsRising cmp xs
+  IsRising-left [] ys a = tt
+  IsRising-left (x ∷ xs) ys a = (AllAfter-left x.0 xs ys a.0, IsRising-left xs ys a.1)
+
+  pub IsRising-right : (xs ys : List (K × V)) → IsRising cmp (xs ++ ys) → IsRising cmp ys
+  IsRising-right [] ys a = a
+  IsRising-right (x ∷ xs) ys a = IsRising-right xs ys a.1
+
+  first_is : (y : K × V) (ys : List (K × V)) (f : K) → first_key (y ∷ ys) ≡ Some f → y.0 ≡ f
+  first_is y ys f e = let h : Some y.0 ≡ Some f = e in cc
+
+  -- in rows that rise, the front is before the first key of the rest
+  pub rising_across : (xs ys : List (K × V)) (f : K) → IsRising cmp (xs ++ ys) → first_key ys ≡ Some f → AllBefore cmp f xs
+  rising_across [] ys f h e = tt
+  rising_across (x ∷ xs) [] f h e = absurd (let n : None ≡ Some f = e in cc)
+  rising_across (x ∷ xs) (y ∷ ys) f h e =
+      let at : cmp x.0 y.0 ≡ Less = (AllAfter-right x.0 xs (y ∷ ys) h.0).0 in
+      (subst (λ (q : K). cmp x.0 q ≡ Less) (first_is y ys f e) at, rising_across xs (y ∷ ys) f h.1 e)
+
+  module _ (total : IsTotalOrder cmp) where
+    pub before_upto : (f k : K) (xs : List (K × V)) → is_gt (cmp f k) ≡ false → AllBefore cmp f xs → AllBefore cmp k xs
+    before_upto f k [] h a = tt
+    before_upto f k (x ∷ xs) h a = (below_upto cmp total x.0 f k (cmp f k) refl h a.0, before_upto f k xs h a.1)
+
+    pub beyond_after : (f k : K) (xs : List (K × V)) → is_lt (cmp f k) ≡ false → AllAfter cmp f xs → AllBeyond cmp k xs
+    beyond_after f k [] h a = tt
+    beyond_after f k (x ∷ xs) h a = (beyond_from cmp total f x.0 k (cmp f k) refl h a.0, beyond_after f k xs h a.1)
+
+    -- rows that rise from a key above k are all above k
+    pub rising_beyond : (f k : K) (ys : List (K × V)) → IsRising cmp ys → first_key ys ≡ Some f → is_gt (cmp f k) ≡ true → AllBeyond cmp k ys
+    rising_beyond f k [] h e g = tt
+    rising_beyond f k (y ∷ ys) h e g =
+        let at : is_gt (cmp y.0 k) ≡ true = subst (λ (q : K). is_gt (cmp q k) ≡ true) (sym (first_is y ys f e)) g in
+        (greater_is cmp total (cmp y.0 k) at, beyond_after y.0 k ys (not_less_from_greater cmp total (cmp y.0 k) at) h.0)
+
+  below-before : (k : K) (xs : List (K × V)) → AllBefore cmp k xs → rows_below cmp k xs ≡ xs
+  below-before k [] a = refl
+  below-before k (x ∷ xs) a = rw a.0 (ap (λ r. x ∷ r) (below-before k xs a.1))
+
+  above-before : (k : K) (xs : List (K × V)) → AllBefore cmp k xs → rows_above cmp k xs ≡ []
+  above-before k [] a = refl
+  above-before k (x ∷ xs) a = rw a.0 (above-before k xs a.1)
+
+  pub from-before : (k : K) (xs : List (K × V)) → AllBefore cmp k xs → rows_from cmp k xs ≡ []
+  from-before k [] a = refl
+  from-before k (x ∷ xs) a = rw a.0 (from-before k xs a.1)
+
+  upto-before : (k : K) (xs : List (K × V)) → AllBefore cmp k xs → rows_upto cmp k xs ≡ xs
+  upto-before k [] a = refl
+  upto-before k (x ∷ xs) a = rw a.0 (ap (λ r. x ∷ r) (upto-before k xs a.1))
+
+  below-beyond : (k : K) (xs : List (K × V)) → AllBeyond cmp k xs → rows_below cmp k xs ≡ []
+  below-beyond k [] a = refl
+  below-beyond k (x ∷ xs) a = rw a.0 (below-beyond k xs a.1)
+
+  above-beyond : (k : K) (xs : List (K × V)) → AllBeyond cmp k xs → rows_above cmp k xs ≡ xs
+  above-beyond k [] a = refl
+  above-beyond k (x ∷ xs) a = rw a.0 (ap (λ r. x ∷ r) (above-beyond k xs a.1))
+
+  pub from-beyond : (k : K) (xs : List (K × V)) → AllBeyond cmp k xs → rows_from cmp k xs ≡ xs
+  from-beyond k [] a = refl
+  from-beyond k (x ∷ xs) a = rw a.0 (ap (λ r. x ∷ r) (from-beyond k xs a.1))
+
+  upto-beyond : (k : K) (xs : List (K × V)) → AllBeyond cmp k xs → rows_upto cmp k xs ≡ []
+  upto-beyond k [] a = refl
+  upto-beyond k (x ∷ xs) a = rw a.0 (upto-beyond k xs a.1)
+
+  find-before : (k : K) (xs : List (K × V)) → AllBefore cmp k xs → find (λ (r : K × V). is_eq (cmp r.0 k)) xs ≡ None
+  find-before k [] a = refl
+  find-before k (x ∷ xs) a = rw a.0 (find-before k xs a.1)
+
+  find-beyond : (k : K) (xs : List (K × V)) → AllBeyond cmp k xs → find (λ (r : K × V). is_eq (cmp r.0 k)) xs ≡ None
+  find-beyond k [] a = refl
+  find-beyond k (x ∷ xs) a = rw a.0 (find-beyond k xs a.1)
+
+  module _ (k : K) (a b c : List (K × V)) (h : Among cmp k a c) where
+    pub below-among : rows_below cmp k (a ++ (b ++ c)) ≡ a ++ rows_below cmp k b
+    below-among =
+        let p = λ (r : K × V). is_lt (cmp r.0 k) in
+        filter-append p a (b ++ c) ∙ ap (λ r. r ++ filter p (b ++ c)) (below-before k a h.before) ∙ ap (λ r. a ++ r) (filter-append p b c ∙ ap (λ r. filter p b ++ r) (below-beyond k c h.beyond) ∙ append-nil (filter p b))
+
+    pub above-among : rows_above cmp k (a ++ (b ++ c)) ≡ rows_above cmp k b ++ c
+    above-among =
+        let p = λ (r : K × V). is_gt (cmp r.0 k) in
+        filter-append p a (b ++ c) ∙ ap (λ r. r ++ filter p (b ++ c)) (above-before k a h.before) ∙ filter-append p b c ∙ ap (λ r. filter p b ++ r) (above-beyond k c h.beyond)
+
+    pub from-among : rows_from cmp k (a ++ (b ++ c)) ≡ rows_from cmp k b ++ c
+    from-among =
+        let p = λ (r : K × V). not (is_lt (cmp r.0 k)) in
+        filter-append p a (b ++ c) ∙ ap (λ r. r ++ filter p (b ++ c)) (from-before k a h.before) ∙ filter-append p b c ∙ ap (λ r. filter p b ++ r) (from-beyond k c h.beyond)
+
+    pub upto-among : rows_upto cmp k (a ++ (b ++ c)) ≡ a ++ rows_upto cmp k b
+    upto-among =
+        let p = λ (r : K × V). not (is_gt (cmp r.0 k)) in
+        filter-append p a (b ++ c) ∙ ap (λ r. r ++ filter p (b ++ c)) (upto-before k a h.before) ∙ ap (λ r. a ++ r) (filter-append p b c ∙ ap (λ r. filter p b ++ r) (upto-beyond k c h.beyond) ∙ append-nil (filter p b))
+
+    pub with_row-among : (v : V) → with_row cmp k v (a ++ (b ++ c)) ≡ a ++ (with_row cmp k v b ++ c)
+    with_row-among v =
+        let low = below-among in
+        let high = above-among in
+        ap (λ r. r ++ (k, v) ∷ rows_above cmp k (a ++ (b ++ c))) low ∙ ap (λ r. (a ++ rows_below cmp k b) ++ (k, v) ∷ r) high
+        ∙ append_assoc a (rows_below cmp k b) ((k, v) ∷ (rows_above cmp k b ++ c)) ∙ ap (λ r. a ++ r) (sym (append_assoc (rows_below cmp k b) ((k, v) ∷ rows_above cmp k b) c))
+
+    pub without_row-among : without_row cmp k (a ++ (b ++ c)) ≡ a ++ (without_row cmp k b ++ c)
+    without_row-among =
+        let low = below-among in
+        let high = above-among in
+        ap (λ r. r ++ rows_above cmp k (a ++ (b ++ c))) low ∙ ap (λ r. (a ++ rows_below cmp k b) ++ r) high
+        ∙ append_assoc a (rows_below cmp k b) (rows_above cmp k b ++ c) ∙ ap (λ r. a ++ r) (sym (append_assoc (rows_below cmp k b) (rows_above cmp k b) c))
+
+    pub value_at-among : value_at cmp k (a ++ (b ++ c)) ≡ value_at cmp k b
+    value_at-among =
+        let p = λ (r : K × V). is_eq (cmp r.0 k) in
+        ap (option_map (λ (r : K × V). r.1)) (find-append p a (b ++ c) ∙ ap (λ r. option_or r (find p (b ++ c))) (find-before k a h.before) ∙ find-append p b c ∙ ap (λ r. option_or (find p b) r) (find-beyond k c h.beyond) ∙ or_none (find p b))
+      where
+        or_none : {X : Type 0} (o : Option X) → option_or o None ≡ o
+        or_none None = refl
+        or_none (Some x) = refl
+
+  pub from_before_all : (k : K) (a d : List (K × V)) → AllBefore cmp k a → rows_from cmp k (a ++ d) ≡ rows_from cmp k d
+  from_before_all k a d h =
+      let p = λ (r : K × V). not (is_lt (cmp r.0 k)) in
+      filter-append p a d ∙ ap (λ r. r ++ filter p d) (from-before k a h)
+
+  -- what is among no row, and among one of the same key
+  pub with_row-gap : (k : K) (v : V) (a c : List (K × V)) → Among cmp k a c → with_row cmp k v (a ++ c) ≡ a ++ (k, v) ∷ c
+  with_row-gap k v a c h = with_row-among k a [] c h v
+
+  pub without_row-gap : (k : K) (a c : List (K × V)) → Among cmp k a c → without_row cmp k (a ++ c) ≡ a ++ c
+  without_row-gap k a c h = without_row-among k a [] c h
+
+  pub value_at-gap : (k : K) (a c : List (K × V)) → Among cmp k a c → value_at cmp k (a ++ c) ≡ None
+  value_at-gap k a c h = value_at-among k a [] c h
+
+  pub with_row-at : (k q : K) (v w : V) (a c : List (K × V)) → Among cmp k a c → cmp q k ≡ Equal → with_row cmp k v (a ++ (q, w) ∷ c) ≡ a ++ (k, v) ∷ c
+  with_row-at k q v w a c h e = with_row-among k a ((q, w) ∷ []) c h v ∙ rw e refl
+
+  pub without_row-at : (k q : K) (w : V) (a c : List (K × V)) → Among cmp k a c → cmp q k ≡ Equal → without_row cmp k (a ++ (q, w) ∷ c) ≡ a ++ c
+  without_row-at k q w a c h e = without_row-among k a ((q, w) ∷ []) c h ∙ rw e refl
+
+  pub value_at-at : (k q : K) (w : V) (a c : List (K × V)) → Among cmp k a c → cmp q k ≡ Equal → value_at cmp k (a ++ (q, w) ∷ c) ≡ Some w
+  value_at-at k q w a c h e = value_at-among k a ((q, w) ∷ []) c h ∙ rw e refl
+
+module _ {K V : Type 0} (cmp : K → K → Ordering) where
+  filter_after : (p : K × V → Bool) (k : K) (xs : List (K × V)) → AllAfter cmp k xs → AllAfter cmp k (filter p xs)
+  filter_after p k [] a = tt
+  filter_after p k (x ∷ xs) a = elim (p x) as (λ b. AllAfter cmp k (cond b (x ∷ filter p xs) (filter p xs))) [ true ↦ (a.0, filter_after p k xs a.1) | false ↦ filter_after p k xs a.1 ]
+
+  filter_rising : (p : K × V → Bool) (xs : List (K × V)) → IsRising cmp xs → IsRising cmp (filter p xs)
+  filter_rising p [] h = tt
+  filter_rising p (x ∷ xs) h = elim (p x) as (λ b. IsRising cmp (cond b (x ∷ filter p xs) (filter p xs))) [ true ↦ (filter_after p x.0 xs h.0, filter_rising p xs h.1) | false ↦ filter_rising p xs h.1 ]
+
+  module _ (total : IsTotalOrder cmp) where
+    kept_before : (k : K) (x : K × V) (xs : List (K × V)) (b : Bool) → is_lt (cmp x.0 k) ≡ b → AllBefore cmp k xs → AllBefore cmp k (cond b (x ∷ xs) xs)
+    kept_before k x xs true e rest = (less_than cmp total (cmp x.0 k) e, rest)
+    kept_before k x xs false e rest = rest
+
+    below_before : (k : K) (xs : List (K × V)) → AllBefore cmp k (rows_below cmp k xs)
+    below_before k [] = tt
+    below_before k (x ∷ xs) = kept_before k x (rows_below cmp k xs) (is_lt (cmp x.0 k)) refl (below_before k xs)
+
+    kept_after : (k : K) (x : K × V) (xs : List (K × V)) (b : Bool) → is_gt (cmp x.0 k) ≡ b → AllAfter cmp k xs → AllAfter cmp k (cond b (x ∷ xs) xs)
+    kept_after k x xs true e rest = (less_from_greater cmp total x.0 k (greater_is cmp total (cmp x.0 k) e), rest)
+    kept_after k x xs false e rest = rest
+
+    above_after : (k : K) (xs : List (K × V)) → AllAfter cmp k (rows_above cmp k xs)
+    above_after k [] = tt
+    above_after k (x ∷ xs) = kept_after k x (rows_above cmp k xs) (is_gt (cmp x.0 k)) refl (above_after k xs)
+
+    after_less : (j k : K) (xs : List (K × V)) → cmp j k ≡ Less → AllAfter cmp k xs → AllAfter cmp j xs
+    after_less j k [] l a = tt
+    after_less j k (x ∷ xs) l a = (total.trans j k x.0 l a.0, after_less j k xs l a.1)
+
+    after_all : (k : K) (xs ys : List (K × V)) → AllAfter cmp k xs → AllAfter cmp k ys → AllAfter cmp k (xs ++ ys)
+    after_all k [] ys a b = b
+    after_all k (x ∷ xs) ys a b = (a.0, after_all k xs ys a.1 b)
+
+    rising_around : (k : K) (v : V) (xs ys : List (K × V)) → IsRising cmp xs → AllBefore cmp k xs → IsRising cmp ys → AllAfter cmp k ys → IsRising cmp (xs ++ (k, v) ∷ ys)
+    rising_around k v [] ys h b i a = (a, i)
+    rising_around k v (x ∷ xs) ys h b i a = (after_all x.0 xs ((k, v) ∷ ys) h.0 (b.0, after_less x.0 k ys b.0 a), rising_around k v xs ys h.1 b.1 i a)
+
+    rising_past : (k : K) (xs ys : List (K × V)) → IsRising cmp xs → AllBefore cmp k xs → IsRising cmp ys → AllAfter cmp k ys → IsRising cmp (xs ++ ys)
+    rising_past k [] ys h b i a = i
+    rising_past k (x ∷ xs) ys h b i a = (after_all x.0 xs ys h.0 (after_less x.0 k ys b.0 a), rising_past k xs ys h.1 b.1 i a)
+
+    -- an edit keeps the keys rising
+    pub rising-with_row : (k : K) (v : V) (xs : List (K × V)) → IsRising cmp xs → IsRising cmp (with_row cmp k v xs)
+    rising-with_row k v xs h = rising_around k v _ _ (filter_rising _ xs h) (below_before k xs) (filter_rising _ xs h) (above_after k xs)
+
+    pub rising-without_row : (k : K) (xs : List (K × V)) → IsRising cmp xs → IsRising cmp (without_row cmp k xs)
+    rising-without_row k xs h = rising_past k _ _ (filter_rising _ xs h) (below_before k xs) (filter_rising _ xs h) (above_after k xs)
+
+    -- how many rows lie on the two sides of a key
+    Sided : K → List (K × V) → Type 0
+    Sided k xs = length (rows_below cmp k xs) + length (rows_above cmp k xs) + cond (is_some (value_at cmp k xs)) 1 0 ≡ length xs
+
+    sided_more : (k : K) (x : K × V) (xs : List (K × V)) → IsRising cmp (x ∷ xs) → Sided k xs → (o : Ordering) → cmp x.0 k ≡ o → Sided k (x ∷ xs)
+    unfolding Sided
+    sided_more k x xs h i Less e = rw e (omega arith)
+    sided_more k x xs h i Equal e =
+        let far = beyond_after cmp total x.0 k xs (rw e refl) h.0 in
+        rw (e, below-beyond cmp k xs far, above-beyond cmp k xs far) (omega arith)
+    sided_more k x xs h i Greater e = rw e (omega arith)
+
+    sides : (k : K) (xs : List (K × V)) → IsRising cmp xs → Sided k xs
+    unfolding Sided
+    sides k [] h = refl
+    sides k (x ∷ xs) h = sided_more k x xs h (sides k xs h.1) (cmp x.0 k) refl
+
+    pub length-with_row : (k : K) (v : V) (xs : List (K × V)) → IsRising cmp xs → length (with_row cmp k v xs) ≡ length xs + cond (is_some (value_at cmp k xs)) 0 1
+    unfolding Sided
+    length-with_row k v xs h =
+        let e = sides k xs h in
+        let l = length-append (rows_below cmp k xs) ((k, v) ∷ rows_above cmp k xs) in
+        counted (is_some (value_at cmp k xs)) (length (rows_below cmp k xs)) (length (rows_above cmp k xs)) (length xs) _ l e
+      where
+        counted : (b : Bool) (m n l w : ℕ) → w ≡ m + suc n → m + n + cond b 1 0 ≡ l → w ≡ l + cond b 0 1
+        counted true m n l w p q = omega arith
+        counted false m n l w p q = omega arith
+
+    pub length-without_row : (k : K) (xs : List (K × V)) → IsRising cmp xs → length (without_row cmp k xs) + cond (is_some (value_at cmp k xs)) 1 0 ≡ length xs
+    unfolding Sided
+    length-without_row k xs h = let e = sides k xs h in let l = length-append (rows_below cmp k xs) (rows_above cmp k xs) in omega arith

@@ -1,0 +1,112 @@
+use Rattle.std.proofs.Common.{rules, ◌≡◌, suc, true, Some, length, sym, ◌∙◌, ap, subst, arith}
+use Rattle.std.proofs.lemmas.List.{nil_from_length}
+use Rattle.std.proofs.lemmas.List.Edits.{length-remove}
+use Rattle.std.specs.Box.{with_value}
+use Rattle.tf_btree.specs.Subtree.{joined, rows}
+use Rattle.tf_btree.specs.Rows.{IsRising, value_at, without_row}
+use Rattle.tf_btree.proofs.Entries.{same_kind, same_parts, length-seen, room_after}
+use Rattle.tf_btree.proofs.Placed.{value_below, rising_entry, value_gap, value_found}
+use Rattle.tf_btree.proofs.Parts.{joined-set, joined-remove}
+use Rattle.tf_btree.proofs.Edited.{without_row_at, without_row_gap, without_row_child, entry_value}
+use Rattle.tf_btree.proofs.Children.{child_at, child_put, child_gone, room_set}
+use Rattle.tf_btree.proofs.node.Node.+remove.Goals as goal
+use Rattle.tf_btree.proofs.node.Node.+remove.Goals.{then-len-eq0, else-len-eq0}
+
+pub returns-in-Ok-clause-rows : goal.returns-in-Ok-clause-rows
+returns-in-Ok-clause-rows g t c = ap joined (same_parts c.remove_row.ensures.rest) ∙ sym (without_row_at _ _ _ _ c.in-Ok.ensures.found)
+
+pub returns-in-Ok-clause-value : goal.returns-in-Ok-clause-value
+returns-in-Ok-clause-value g t c =
+    let at = c.in-Ok.ensures.found in
+    ap Some (entry_value c.args.self.now.parts c.in-Ok.at _ _ _ at.in_range at.row.2 c.remove_row.ensures.value) ∙ sym (value_found _ _ _ _ at)
+
+pub returns-in-Err-clause-rows : goal.returns-in-Err-clause-rows
+returns-in-Err-clause-rows g t c = sym (without_row_gap _ _ _ _ c.in-Err.ensures.absent)
+
+pub returns-in-Err-clause-value : goal.returns-in-Err-clause-value
+returns-in-Err-clause-value g t c = sym (value_gap _ _ _ _ c.in-Err.ensures.absent)
+
+pub remove-removed-requires : goal.remove-removed-requires
+remove-removed-requires g t c κs within =
+    let branch : c.self.inside.is_branch ≡ true = same_kind c.self.view_is ∙ sym c.is_branch.ensures ∙ c.if-not-is_branch.false in
+    let child = child_at _ _ _ _ _ _ _ _ branch c.self.invariant.0 c.self.view_is c.find_child-at.ensures.in_range c.index_mut.ensures.value c.deref_mut-child.ensures.value in
+    let level = child.level in (
+      search rules,
+      (
+        search rules,
+        (
+          search rules,
+          (
+            search rules,
+            (
+              subst (λ r. IsRising g.K.Ord.cmp r) child.entry (rising_entry _ _ _ c.find_child-at.ensures.in_range c.requires.rising),
+              child.some,
+            ),
+          ),
+        ),
+      ),
+    )
+
+pub invariant_of-self : goal.invariant_of-self
+invariant_of-self g t c =
+    let branch : c.self.inside.is_branch ≡ true = same_kind c.self.view_is ∙ sym c.is_branch.ensures ∙ c.if-not-is_branch.false in
+    let long = length-seen _ _ _ _ _ c.self.invariant.0 c.self.view_is in
+    let shorter = length-remove c.self.inside.keys.items c.find_child-at.result (omega (arith, c.find_child-at.ensures.in_range)) in
+    let gone = child_gone _ _ _ _ _ _ _ _ _ branch c.self.invariant.0 c.self.view_is c.remove.ensures.items c.remove-then-len-eq0.ensures.items in
+    let fewer = ap length c.remove.ensures.items in
+    (gone.node, room_after _ _ _ _ _ _ _ _ _ _ c.self.invariant.1 (omega (arith, c.self.invariant.1.entries_fit)) (omega arith) (omega arith) (omega arith))
+
+pub invariant_of-self-else-len-eq0 : goal.invariant_of-self-else-len-eq0
+invariant_of-self-else-len-eq0 g t c =
+    let branch : c.self.inside.is_branch ≡ true = same_kind c.self.view_is ∙ sym c.is_branch.ensures ∙ c.if-not-is_branch.false in
+    let child = child_at _ _ _ _ _ _ _ _ branch c.self.invariant.0 c.self.view_is c.find_child-at.ensures.in_range c.index_mut.ensures.value c.deref_mut-child.ensures.value in
+    let some = c.if-len-eq0.false in
+    let long = c.len.ensures.value in
+    let level = child.level ∙ ap suc (sym (c.remove-removed.ensures.level (omega arith))) in
+    let put = child_put _ _ _ _ _ _ _ _ branch c.self.invariant.0 c.self.view_is c.find_child-at.ensures.in_range c.first-first.ensures level in
+    (put.node, room_set _ _ _ _ _ _ _ _ c.self.invariant.1)
+
+pub returns-clause-rows : goal.returns-clause-rows
+returns-clause-rows g t c =
+    let branch : c.self.inside.is_branch ≡ true = same_kind c.self.view_is ∙ sym c.is_branch.ensures ∙ c.if-not-is_branch.false in
+    let child = child_at _ _ _ _ _ _ _ _ branch c.self.invariant.0 c.self.view_is c.find_child-at.ensures.in_range c.index_mut.ensures.value c.deref_mut-child.ensures.value in
+    let less = without_row_child _ _ _ _ _ _ c.find_child-at.ensures child.entry c.remove-removed.ensures.rows in
+    let here : rows c.if-len-eq0.self ≡ without_row g.K.Ord.cmp c.args.key.now (rows c.args.self.now) =
+    elim c.if-len-eq0.branch [
+      | then-len-eq0 w ↦
+          let gone = child_gone _ _ _ _ _ _ _ _ (with_value c.index_mut.result.now c.remove-removed.new.self) branch c.self.invariant.0 c.self.view_is w.remove.ensures.items w.remove-then-len-eq0.ensures.items in
+          let none = nil_from_length c.remove-removed.new.self.parts (sym c.len.ensures.value ∙ w.if-len-eq0.true) in
+          rw (w.self-is, gone.parts) (joined-remove c.args.self.now.parts c.find_child-at.result ∙ rw none at less)
+      | else-len-eq0 w ↦
+          let some = w.if-len-eq0.false in
+          let long = c.len.ensures.value in
+          let level = child.level ∙ ap suc (sym (c.remove-removed.ensures.level (omega arith))) in
+          let put = child_put _ _ _ _ _ _ _ (with_value c.index_mut.result.now c.remove-removed.new.self) branch c.self.invariant.0 c.self.view_is c.find_child-at.ensures.in_range w.first-first.ensures level in
+          rw (w.self-is, put.parts) (joined-set c.args.self.now.parts c.find_child-at.result (rows c.remove-removed.new.self) c.find_child-at.ensures.in_range ∙ less)
+    ] in
+    c.mend.ensures.all ∙ here
+
+pub returns-clause-value : goal.returns-clause-value
+returns-clause-value g t c =
+    let branch : c.self.inside.is_branch ≡ true = same_kind c.self.view_is ∙ sym c.is_branch.ensures ∙ c.if-not-is_branch.false in
+    let child = child_at _ _ _ _ _ _ _ _ branch c.self.invariant.0 c.self.view_is c.find_child-at.ensures.in_range c.index_mut.ensures.value c.deref_mut-child.ensures.value in
+    c.remove-removed.ensures.value ∙ sym (value_below _ _ _ _ c.find_child-at.ensures ∙ ap (λ r. value_at g.K.Ord.cmp c.args.key.now r) child.entry)
+
+pub returns-clause-level : goal.returns-clause-level
+returns-clause-level g t c = λ some.
+    let branch : c.self.inside.is_branch ≡ true = same_kind c.self.view_is ∙ sym c.is_branch.ensures ∙ c.if-not-is_branch.false in
+    let child = child_at _ _ _ _ _ _ _ _ branch c.self.invariant.0 c.self.view_is c.find_child-at.ensures.in_range c.index_mut.ensures.value c.deref_mut-child.ensures.value in
+    let entries = c.mend.ensures.entries some in
+    let here : c.if-len-eq0.self.height ≡ c.args.self.now.height =
+    elim c.if-len-eq0.branch [
+      | then-len-eq0 w ↦
+          let gone = child_gone _ _ _ _ _ _ _ _ (with_value c.index_mut.result.now c.remove-removed.new.self) branch c.self.invariant.0 c.self.view_is w.remove.ensures.items w.remove-then-len-eq0.ensures.items in
+          rw w.self-is (gone.height (rw w.self-is at entries))
+      | else-len-eq0 w ↦
+          let some = w.if-len-eq0.false in
+          let long = c.len.ensures.value in
+          let level = child.level ∙ ap suc (sym (c.remove-removed.ensures.level (omega arith))) in
+          let put = child_put _ _ _ _ _ _ _ (with_value c.index_mut.result.now c.remove-removed.new.self) branch c.self.invariant.0 c.self.view_is c.find_child-at.ensures.in_range w.first-first.ensures level in
+          rw w.self-is put.height
+    ] in
+    c.mend.ensures.level ∙ here

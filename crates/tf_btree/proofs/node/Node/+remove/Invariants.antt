@@ -1,0 +1,4 @@
+use Rattle.tf_btree.proofs.node.Node.+remove.Given as goal
+
+abbrev pub decreases-remove : goal.decreases-remove
+decreases-remove g l = goal.size-remove g l

@@ -1,0 +1,21 @@
+use Rattle.std.proofs.Common.{[], ◌∷◌, ◌∙◌, arith}
+use Rattle.std.proofs.lemmas.List.{get_or_default}
+use Rattle.tf_btree.specs.Subtree.{rows}
+use Rattle.tf_btree.proofs.Entries.{same_parts}
+use Rattle.tf_btree.proofs.Edited.{move_last}
+use Rattle.tf_btree.proofs.node.Node.give_last.Goals as goal
+
+pub returns-then-is_branch-clause-all : goal.returns-then-is_branch-clause-all
+returns-then-is_branch-clause-all g c =
+    let put = same_parts c.insert_child.ensures in
+    let at = c.len-last.ensures.value in
+    let last = get_or_default c.args.self.now.parts _ [] (rows c.remove_child-child.result.value) (omega arith) ∙ c.remove_child-child.ensures.value in
+    rw (put, c.remove_child-child.ensures.rest) (move_last c.args.self.now.parts c.args.second.now.parts _ _ (omega arith) last)
+
+pub returns-else-is_branch-clause-all : goal.returns-else-is_branch-clause-all
+returns-else-is_branch-clause-all g c =
+    let put = same_parts c.insert_row.ensures in
+    let gone = same_parts c.remove_row-key.ensures.rest in
+    let at = c.len-last.ensures.value in
+    let last = get_or_default c.args.self.now.parts _ [] (c.remove_row-key.result ∷ []) (omega arith) ∙ c.remove_row-key.ensures.value in
+    rw (put, gone) (move_last c.args.self.now.parts c.args.second.now.parts _ _ (omega arith) last)

@@ -1,0 +1,21 @@
+use Rattle.std.proofs.Common.{[], ◌∷◌, ◌∙◌, arith}
+use Rattle.std.proofs.lemmas.List.{get_or_default}
+use Rattle.tf_btree.specs.Subtree.{rows}
+use Rattle.tf_btree.proofs.Entries.{same_parts}
+use Rattle.tf_btree.proofs.Edited.{move_first}
+use Rattle.tf_btree.proofs.node.Node.take_first.Goals as goal
+
+pub returns-then-is_branch-clause-all : goal.returns-then-is_branch-clause-all
+returns-then-is_branch-clause-all g c =
+    let put = same_parts c.insert_child.ensures in
+    let at = c.len-end.ensures.value in
+    let first = get_or_default c.args.second.now.parts 0 [] (rows c.remove_child-child.result.value) (omega arith) ∙ c.remove_child-child.ensures.value in
+    rw (put, c.remove_child-child.ensures.rest, at) (move_first c.args.self.now.parts c.args.second.now.parts _ (omega arith) first)
+
+pub returns-else-is_branch-clause-all : goal.returns-else-is_branch-clause-all
+returns-else-is_branch-clause-all g c =
+    let put = same_parts c.insert_row.ensures in
+    let gone = same_parts c.remove_row-key.ensures.rest in
+    let at = c.len-end.ensures.value in
+    let first = get_or_default c.args.second.now.parts 0 [] (c.remove_row-key.result ∷ []) (omega arith) ∙ c.remove_row-key.ensures.value in
+    rw (put, gone, at) (move_first c.args.self.now.parts c.args.second.now.parts _ (omega arith) first)

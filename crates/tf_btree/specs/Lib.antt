@@ -1,0 +1,9 @@
+pub mod Rows
+pub mod Subtree
+pub mod Node
+pub mod Falls
+pub mod Place
+pub mod Inserted
+pub mod Tree
+pub mod Run
+pub mod Cursor

@@ -1,0 +1,125 @@
+//! Removals from a node.
+ghost use Rattle.std.specs.Prelude.{◌≡◌, ◌+◌, ◌<◌, ◌≤◌, [], ◌++◌, length, suc, true, false};
+ghost use Rattle.tf_btree.specs.Subtree.{Subtree, rows};
+ghost use Rattle.tf_btree.specs.Rows.{IsRising, value_at, without_row};
+ghost use Rattle.tf_btree.specs.Inserted.{KeepsLevel};
+
+use super::{CAPACITY, Node};
+use std::alloc::Allocator;
+
+impl<K: Copy, V: Copy, A: Allocator> Node<K, V, A> {
+    /// Moves the first entry of `second` behind those of this node.
+    fn take_first(&mut self, second: &mut Node<K, V, A>)
+        requires kind { second.old.is_branch ≡ self.old.is_branch }
+        requires level { second.old.height ≡ self.old.height }
+        requires some { 0 < length self.old.parts }
+        requires more { 1 < length second.old.parts }
+        requires room { length self.old.parts < 32 }
+        ensures all { rows self.new ++ rows second.new ≡ rows self.old ++ rows second.old }
+        ensures level { KeepsLevel self.old self.new }
+        ensures second_level { KeepsLevel second.old second.new }
+    {
+        let end = self.len();
+        if self.is_branch() {
+            let child = second.remove_child(0);
+            self.insert_child(end, child);
+        } else {
+            let (key, value) = second.remove_row(0);
+            self.insert_row(end, key, value);
+        }
+    }
+
+    /// Moves the last entry of this node before those of `second`.
+    fn give_last(&mut self, second: &mut Node<K, V, A>)
+        requires kind { second.old.is_branch ≡ self.old.is_branch }
+        requires level { second.old.height ≡ self.old.height }
+        requires more { 1 < length self.old.parts }
+        requires some { 0 < length second.old.parts }
+        requires room { length second.old.parts < 32 }
+        ensures all { rows self.new ++ rows second.new ≡ rows self.old ++ rows second.old }
+        ensures level { KeepsLevel self.old self.new }
+        ensures second_level { KeepsLevel second.old second.new }
+    {
+        let last = self.len() - 1;
+        if self.is_branch() {
+            let child = self.remove_child(last);
+            second.insert_child(0, child);
+        } else {
+            let (key, value) = self.remove_row(last);
+            second.insert_row(0, key, value);
+        }
+    }
+
+    /// Joins the child at `at` with a neighbour, or moves an entry over from it, where it is less than half full.
+    fn mend(&mut self, at: usize)
+        requires branch { self.old.is_branch ≡ true }
+        ensures all { rows self.new ≡ rows self.old }
+        ensures kind { self.new.is_branch ≡ true }
+        ensures entries { 0 < length self.new.parts → 0 < length self.old.parts }
+        ensures level { self.new.height ≡ self.old.height }
+    {
+        let len = self.len();
+        if at >= len || len < 2 || self.child(at).len() >= CAPACITY / 2 {
+            return;
+        }
+        let left = if at == 0 { 0 } else { at - 1 };
+        self.mend_pair(left);
+    }
+
+    /// Joins the children at `left` and behind it, or moves an entry from the fuller one to the other.
+    fn mend_pair(&mut self, left: usize)
+        requires branch { self.old.is_branch ≡ true }
+        requires in_range { left + 1 < length self.old.parts }
+        requires fits { length self.old.parts ≤ 32 }
+        ensures all { rows self.new ≡ rows self.old }
+        ensures level { KeepsLevel self.old self.new }
+    {
+        let mut second = self.remove_child(left + 1);
+        let mut first = self.remove_child(left);
+        let first_len = first.len();
+        let second_len = second.len();
+        if first_len + second_len <= CAPACITY {
+            first.append(&mut second);
+            self.insert_child(left, first);
+            return;
+        }
+        if first_len < second_len {
+            first.take_first(&mut second);
+        } else if second_len < first_len {
+            first.give_last(&mut second);
+        }
+        self.insert_child(left, second);
+        self.insert_child(left, first);
+    }
+
+    /// Removes the row of `key` below this node, if there is one, and gives its value. It takes no memory.
+    pub(crate) fn remove(&mut self, key: &K) -> Option<V>
+    where
+        K: Ord,
+        requires rising { IsRising K.cmp (rows self.old) }
+        requires some { 0 < length self.old.parts }
+        ensures rows { rows self.new ≡ without_row K.cmp key.now (rows self.old) }
+        ensures value { result ≡ value_at K.cmp key.now (rows self.old) }
+        ensures kind { self.new.is_branch ≡ self.old.is_branch }
+        ensures level { 0 < length self.new.parts → self.new.height ≡ self.old.height }
+    {
+        if !self.is_branch() {
+            return match self.find_row(key) {
+                Ok(at) => Some(self.remove_row(at).1),
+                Err(_) => None,
+            };
+        }
+        let at = self.find_child(key);
+        let child: &mut Node<K, V, A> = &mut self.children[at];
+        let removed = child.remove(key);
+        if child.len() == 0 {
+            let _ = self.keys.remove(at);
+            let _ = self.children.remove(at);
+        } else {
+            let first = child.first();
+            self.keys[at] = first;
+        }
+        self.mend(at);
+        removed
+    }
+}

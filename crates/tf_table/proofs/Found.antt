@@ -1,0 +1,68 @@
+-- What a search in the keys of a table says of its rows.
+use Rattle.std.proofs.Common.{◌≡◌, ℕ, ◌+◌, ◌-◌, ◌<◌, ◌≤◌, List, length, take, drop, get_or, Option, Some, None, true, false, arith, ap, sym, ◌∙◌, subst}
+use Rattle.std.specs.Ordering.{is_lt, is_eq, is_gt}
+use Rattle.tf_btree.specs.Rows.{rows_from, rows_upto}
+use Rattle.std.proofs.lemmas.List.{get_or_default}
+use Rattle.tf_table.specs.declared.key.Key.{Key}
+use Rattle.tf_table.specs.declared.entries.Entries.{Entries}
+use Rattle.tf_table.specs.Entries.{entries_of}
+use Rattle.tf_table.specs.Key.{key_cmp}
+use Rattle.tf_table.specs.Rows.{rows_of, IsLaidOut}
+use Rattle.tf_table.specs.Content.{entry_at}
+use Rattle.tf_table.proofs.Keys.{keys_total}
+use Rattle.tf_table.proofs.LaidOut.{length-rows_of, row_there, key_there}
+use Rattle.tf_table.proofs.Rising.{AllBefore}
+use Rattle.tf_table.proofs.Places.{before_all, value_at-place, value_at-missing, value_at-end, value_at-under, value_at-over, rows_from-place, rows_upto-place}
+
+module _ {V A : Type 0} (least greatest : Key) (ks : List Key) (es : Entries V A) (laid : IsLaidOut least greatest ks es) where
+  pub length-laid : length (rows_of ks es) ≡ length ks
+  length-laid = length-rows_of ks es laid.paired
+
+  -- all rows before a place with a lesser key right before it
+  pub laid_before : (key : Key) (p : ℕ) → p ≤ length ks → ((q : ℕ) (d : Key) → q + 1 ≡ p → is_lt (key_cmp (get_or ks q d) key) ≡ true) → AllBefore key_cmp keys_total key (take p (rows_of ks es))
+  laid_before key p l h =
+      before_all key_cmp keys_total key (rows_of ks es) p laid.rising (omega (arith, length-laid))
+      (λ q d e. subst (λ k. is_lt (key_cmp k key) ≡ true) (sym (key_there ks es q d laid.paired (omega arith))) (h q d.0 e))
+
+  pub entry_at-found : (key : Key) (p : ℕ) (k : Key) (e : Option V) → AllBefore key_cmp keys_total key (take p (rows_of ks es)) → p < length ks → k ≡ get_or ks p k → is_eq (key_cmp k key) ≡ true → get_or (entries_of (length ks) es) p e ≡ e → entry_at key (rows_of ks es) ≡ Some e
+  entry_at-found key p k e before l same eq entry =
+      let there = row_there ks es p k e laid.paired l same entry in
+      value_at-place key_cmp keys_total key (rows_of ks es) p (k, e) before (omega (arith, length-laid)) (ap (λ (r : Key × Option V). is_eq (key_cmp r.0 key)) there ∙ eq)
+      ∙ ap (λ (r : Key × Option V). Some r.1) there
+
+  pub entry_at-missing : (key : Key) (p : ℕ) (k : Key) → AllBefore key_cmp keys_total key (take p (rows_of ks es)) → p < length ks → k ≡ get_or ks p k → is_lt (key_cmp k key) ≡ false → is_eq (key_cmp k key) ≡ false → entry_at key (rows_of ks es) ≡ None
+  entry_at-missing key p k before l same n e =
+      let d : Key × Option V = (k, None) in
+      let there : k ≡ (get_or (rows_of ks es) p d).0 = same ∙ sym (key_there ks es p d laid.paired l) in
+      value_at-missing key_cmp keys_total key (rows_of ks es) p d laid.rising before (omega (arith, length-laid)) (subst (λ x. is_lt (key_cmp x key) ≡ false) there n) (subst (λ x. is_eq (key_cmp x key) ≡ false) there e)
+
+  pub entry_at-end : (key : Key) (p : ℕ) → AllBefore key_cmp keys_total key (take p (rows_of ks es)) → length ks ≤ p → entry_at key (rows_of ks es) ≡ None
+  entry_at-end key p before l = value_at-end key_cmp keys_total key (rows_of ks es) p before (omega (arith, length-laid))
+
+  -- outside of the least and the greatest key
+  pub entry_at-under : (key : Key) → is_lt (key_cmp key least) ≡ true → entry_at key (rows_of ks es) ≡ None
+  entry_at-under key e = value_at-under key_cmp keys_total key (rows_of ks es) laid.rising (λ d l.
+      let some : 0 < length ks = omega (arith, length-laid) in
+      let d' : Key × Option V = (least, d.1) in
+      let first : least ≡ (get_or (rows_of ks es) 0 d').0 = laid.first some ∙ sym (key_there ks es 0 d' laid.paired some) in
+      subst (λ x. is_lt (key_cmp key x) ≡ true) (first ∙ ap (λ (r : Key × Option V). r.0) (get_or_default (rows_of ks es) 0 d' d l)) e)
+
+  pub entry_at-over : (key : Key) → is_lt (key_cmp greatest key) ≡ true → entry_at key (rows_of ks es) ≡ None
+  entry_at-over key e = value_at-over key_cmp keys_total key (rows_of ks es) laid.rising (λ d l.
+      let some : 0 < length ks = omega (arith, length-laid) in
+      let d' : Key × Option V = (greatest, d.1) in
+      let n : length (rows_of ks es) - 1 ≡ length ks - 1 = ap (λ m. m - 1) length-laid in
+      let last : greatest ≡ (get_or (rows_of ks es) (length ks - 1) d').0 = laid.last some ∙ sym (key_there ks es (length ks - 1) d' laid.paired (omega arith)) in
+      subst (λ x. is_lt (key_cmp x key) ≡ true) (last ∙ ap (λ (r : Key × Option V). r.0) (get_or_default (rows_of ks es) (length ks - 1) d' d (omega (arith, length-laid))) ∙ ap (λ m. (get_or (rows_of ks es) m d).0) (sym n)) e)
+
+  -- the rows of a seek
+  pub laid_from : (key : Key) (p : ℕ) → p ≤ length ks → ((q : ℕ) (d : Key) → q + 1 ≡ p → is_lt (key_cmp (get_or ks q d) key) ≡ true) → ((d : Key) → p < length ks → is_lt (key_cmp (get_or ks p d) key) ≡ false) → rows_from key_cmp key (rows_of ks es) ≡ drop p (rows_of ks es)
+  laid_from key p l before after =
+      rows_from-place key_cmp keys_total key (rows_of ks es) p laid.rising (laid_before key p l before)
+      (λ d h. subst (λ k. is_lt (key_cmp k key) ≡ false) (sym (key_there ks es p d laid.paired (omega (arith, length-laid)))) (after d.0 (omega (arith, length-laid))))
+
+  pub laid_upto : (key : Key) (p : ℕ) → p ≤ length ks → ((q : ℕ) (d : Key) → q + 1 ≡ p → is_gt (key_cmp (get_or ks q d) key) ≡ false) → ((d : Key) → p < length ks → is_gt (key_cmp (get_or ks p d) key) ≡ true) → rows_upto key_cmp key (rows_of ks es) ≡ take p (rows_of ks es)
+  laid_upto key p l before after =
+      rows_upto-place key_cmp keys_total key (rows_of ks es) p laid.rising (omega (arith, length-laid))
+      (λ q d e. subst (λ k. is_gt (key_cmp k key) ≡ false) (sym (key_there ks es q d laid.paired (omega arith))) (before q d.0 e))
+      (λ d h. subst (λ k. is_gt (key_cmp k key) ≡ true) (sym (key_there ks es p d laid.paired (omega (arith, length-laid)))) (after d.0 (omega (arith, length-laid))))

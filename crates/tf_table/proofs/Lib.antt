@@ -1,0 +1,10 @@
+pub mod Combine
+pub mod Determined
+pub mod Found
+pub mod Keys
+pub mod LaidOut
+pub mod Least
+pub mod Places
+pub mod Rising
+pub mod Spans
+pub mod Walks

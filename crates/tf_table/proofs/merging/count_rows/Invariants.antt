@@ -1,0 +1,8 @@
+use Rattle.std.proofs.Common.{take, map}
+use Rattle.tf_btree.specs.Rows.{IsRising}
+use Rattle.tf_table.specs.Key.{key_cmp}
+use Rattle.tf_table.specs.Merge.{EachList}
+use Rattle.tf_table.proofs.merging.count_rows.Given as goal
+
+abbrev pub invariant-loop-table : goal.invariant-loop-table
+invariant-loop-table g l = EachList (IsRising key_cmp) (take l.table-index (map (λ table. table.now) l.tables))

@@ -1,0 +1,14 @@
+-- What the entries of a table's rows are, in either form.
+use Rattle.std.specs.Prelude.{ℕ, ◌<◌, List, Option, length, replicate}
+use Rattle.tf_table.specs.declared.entries.Entries.{Entries}
+use Rattle.tf_table.specs.declared.entries.Entries.TheVariants.{Same, Each}
+
+-- the entries of so many rows, in the order of the rows
+abbrev pub entries_of : {V A : Type 0} → ℕ → Entries V A → List (Option V)
+entries_of n (Same entry) = replicate n entry
+entries_of n (Each entries) = entries.items
+
+-- there is an entry at the place, whatever the number of rows
+abbrev pub HasEntry : {V A : Type 0} → ℕ → Entries V A → Type 0
+HasEntry place (Same entry) = Unit {0}
+HasEntry place (Each entries) = place < length entries.items

@@ -1,0 +1,5 @@
+pub mod Key
+pub mod Entries
+pub mod Rows
+pub mod Content
+pub mod Merge

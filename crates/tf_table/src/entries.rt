@@ -1,0 +1,121 @@
+//! The entries of a table's rows, apart from their keys.
+ghost use Rattle.std.specs.Prelude.{◌≡◌, ◌↔◌, ℕ, ◌+◌, ◌<◌, ◌≤◌, [], ◌∷◌, ◌++◌, length, replicate, Option, IsTrue, IfOk, OnOk, slice_index_or};
+ghost use Rattle.std.specs.Option.{option_copied};
+ghost use Rattle.tf_table.specs.Entries.{entries_of, HasEntry};
+
+use std::alloc::{AllocError, Allocator};
+
+/// Values that can tell whether one repeats another.
+///
+/// A table whose entries all repeat the first one stores it once. A type for which the test is slow may always answer
+/// false.
+pub trait Repeats: Copy {
+    /// Whether the two are the same, where that is quick to tell.
+    fn repeats(&self, other: &Self) -> bool
+        ensures { IsTrue result → self.now ≡ other.now };
+}
+
+impl Repeats for () {
+    fn repeats(&self, _other: &()) -> bool
+        ensures { IsTrue result }
+    {
+        true
+    }
+}
+
+impl Repeats for u64 {
+    fn repeats(&self, other: &u64) -> bool
+        ensures { IsTrue result ↔ (self.now ≡ other.now) }
+    {
+        *self == *other
+    }
+}
+
+/// The entries of a number of rows: a value each, or None for a tombstone.
+#[derive(Drop)]
+pub(crate) enum Entries<V, A: Allocator> {
+    /// The same for each row.
+    Same(Option<V>),
+    /// One for each row.
+    Each(Vec<Option<V>, A>),
+}
+
+impl<V, A: Allocator> Entries<V, A> {
+    /// The entry at a place.
+    #[inline]
+    pub(crate) fn at(&self, place: usize) -> Option<&V>
+        requires { HasEntry place self.now }
+        ensures { (rows : ℕ) (d : Option V) → place < rows → slice_index_or (entries_of rows self.now) place d ≡ option_copied result }
+    {
+        match self {
+            Entries::Same(entry) => entry.as_ref(),
+            Entries::Each(entries) => entries[place].as_ref(),
+        }
+    }
+
+    /// Gives back the room that no entry takes.
+    pub(crate) fn shrink(&mut self)
+        ensures { (rows : ℕ) → entries_of rows self.new ≡ entries_of rows self.old }
+    {
+        if let Entries::Each(entries) = self {
+            entries.shrink_to_fit();
+        }
+    }
+}
+
+impl<V: Repeats, A: Allocator + Clone> Entries<V, A> {
+    /// Puts an entry behind those of `rows` rows. If it is the first one that differs, it takes room for `room` entries.
+    #[inline]
+    pub(crate) fn add(
+        &mut self,
+        alloc: &A,
+        rows: usize,
+        room: usize,
+        entry: Option<V>,
+    ) -> Result<(), AllocError>
+        requires { length (entries_of rows self.old) ≡ rows }
+        ensures { OnOk result (entries_of (rows + 1) self.new ≡ entries_of rows self.old ++ entry ∷ []) }
+    {
+        match self {
+            Entries::Each(entries) => entries.push(entry)?,
+            Entries::Same(same) => {
+                if rows == 0 {
+                    *same = entry;
+                } else if !is_repeated(same, &entry) {
+                    *self = Entries::Each(spread(alloc.clone()?, *same, rows, room, entry)?);
+                }
+            }
+        }
+        Ok(())
+    }
+}
+
+/// Whether the two entries are the same, where that is quick to tell.
+#[inline]
+fn is_repeated<V: Repeats>(entry: &Option<V>, other: &Option<V>) -> bool
+    ensures { IsTrue result → entry.now ≡ other.now }
+{
+    match (entry, other) {
+        (None, None) => true,
+        (Some(value), Some(other)) => value.repeats(other),
+        _ => false,
+    }
+}
+
+/// A run of its own for entries that were the same up to the last one, with room for `room` of them.
+fn spread<V: Copy, A: Allocator>(
+    alloc: A,
+    same: Option<V>,
+    rows: usize,
+    room: usize,
+    last: Option<V>,
+) -> Result<Vec<Option<V>, A>, AllocError>
+    ensures { IfOk result (λ entries. entries.items ≡ replicate rows same ++ last ∷ []) }
+{
+    let mut entries = Vec::with_capacity(alloc, room)?;
+    for _row in 0..rows {
+        entries.push(same)?;
+    }
+    entries.push(last)?;
+    Ok(entries)
+}

@@ -1,0 +1,22 @@
+//! Sealed tables: rows that no longer change, sorted by key, and their merge.
+//!
+//! A row is a key with a value, or with a tombstone, which says that the key is absent.
+#![tactic(auto)]
+
+mod cursor;
+mod draft;
+mod entries;
+mod key;
+mod merging;
+mod sealed;
+mod sealing;
+mod search;
+#[cfg(test)]
+mod tests;
+
+pub use cursor::Cursor;
+pub use entries::Repeats;
+pub use key::Key;
+pub use merging::merge;
+pub use sealed::{Row, Sealed};
+pub use sealing::seal;

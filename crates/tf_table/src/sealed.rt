@@ -1,0 +1,89 @@
+//! A sealed table.
+ghost use Rattle.std.specs.Prelude.{◌≡◌, ◌+◌, ◌^◌, ◌<◌, ◌≤◌, ◌==◌, [], ◌∷◌, ◌++◌, length, IfOk, IsSome, slice_get};
+ghost use Rattle.std.specs.Option.{option_copied, option_map};
+ghost use Rattle.tf_btree.specs.Rows.{IsRising};
+ghost use Rattle.tf_table.specs.Key.{key_cmp};
+ghost use Rattle.tf_table.specs.Content.{entry_at};
+ghost use Rattle.tf_table.specs.Merge.{seen};
+
+use crate::Key;
+use crate::entries::Entries;
+use crate::search::count_below;
+use std::alloc::Allocator;
+use std::marker::Model;
+
+/// A row of a table: its key, and its value or None for a tombstone.
+pub type Row<'a, V> = (&'a Key, Option<&'a V>);
+
+/// Rows that no longer change, in the order of their keys. Each is a value, or None for a tombstone.
+///
+/// The keys lie in one run and the entries in another, and entries that all repeat the first are stored once.
+#[derive(Drop)]
+pub struct Sealed<V, A: Allocator> {
+    pub(crate) least: Key,
+    pub(crate) greatest: Key,
+    pub(crate) keys: Vec<Key, A>,
+    pub(crate) entries: Entries<V, A>,
+}
+
+impl<V, A: Allocator> Model for Sealed<V, A> {
+    ghost use Rattle.std.specs.Prelude.{List, Option};
+    ghost use Rattle.tf_table.specs.declared.key.Key.{Key};
+
+    ghost Value = { List (Key × Option V) };
+
+    ghost use Rattle.tf_table.specs.Rows.{rows_of, IsLaidOut};
+
+    ghost view = { λ t. rows_of t.keys.items t.entries };
+
+    ghost invariant = { λ t. IsLaidOut t.least t.greatest t.keys.items t.entries };
+}
+
+impl<V, A: Allocator> Sealed<V, A> {
+    /// The number of rows, tombstones included.
+    #[inline]
+    pub fn len(&self) -> usize
+        ensures value { result ≡ length self.now }
+        // No key comes twice.
+        ensures rising { IsRising key_cmp self.now }
+    {
+        self.keys.len()
+    }
+
+    /// Whether there is no row.
+    pub fn is_empty(&self) -> bool
+        ensures { result ≡ (length self.now == 0) }
+    {
+        self.keys.is_empty()
+    }
+
+    /// The entry of a key, if the table has the key: its value, or None inside for a tombstone.
+    ///
+    /// It takes two comparisons for a key that no row can have, by the least and the greatest key of the table, and
+    /// else a number that grows with the logarithm of the rows. No entry is read until the key is found.
+    pub fn find(&self, key: &Key) -> Option<Option<&V>>
+        ensures { option_map option_copied result ≡ entry_at key.now self.now }
+    {
+        if key.cmp(&self.least).is_lt() || self.greatest.cmp(key).is_lt() {
+            return None;
+        }
+        let place = count_below(&self.keys, key);
+        if place < self.keys.len() && self.keys[place].cmp(key).is_eq() {
+            return Some(self.entries.at(place));
+        }
+        None
+    }
+
+    /// The row at a place, counted from 0.
+    #[inline]
+    pub(crate) fn row_at(&self, place: usize) -> Option<Row<'_, V>>
+        ensures value { option_map seen result ≡ slice_get self.now place }
+        ensures within { IsSome result → place + 1 < 2 ^ 64 }
+    {
+        if place < self.keys.len() {
+            Some((&self.keys[place], self.entries.at(place)))
+        } else {
+            None
+        }
+    }
+}
