@@ -4,7 +4,7 @@ use Rattle.std.specs.List.{insert, remove}
 use Rattle.std.specs.declared.cmp.Ordering.{Ordering}
 use Rattle.std.proofs.lemmas.List.{length-append, length-take, length-drop, length-set, set_split, map-set, drop_all, append-nil, get_or_default}
 use Rattle.std.proofs.lemmas.List.Edits.{insert_end, length-remove}
-use Rattle.tf_btree.specs.Subtree.{Subtree, joined, rows}
+use Rattle.tf_btree.specs.Subtree.{Subtree, joined, rows, fill_of}
 use Rattle.tf_btree.specs.Node.{single_rows, first_key, parts_of, height_of, height_over, AllHigh, subtree_of, IsNode}
 use Rattle.tf_btree.specs.Rows.{with_row, without_row}
 use Rattle.tf_btree.specs.Place.{IsAt, IsGap, IsBelow}
@@ -28,9 +28,9 @@ leaf_set_node b ks vs cs i k v e n =
     leaf_node b (set ks i k) (set vs i v) cs e old.0 (omega (arith, old.1, length-set ks i k, length-set vs i v))
 
 pub leaf_set_view : {K V : Type 0} (b : Bool) (ks : List K) (vs : List V) (cs : List (Subtree K V)) (i : ℕ) (k : K) (v : V) → b ≡ false → IsNode b ks vs cs
-    → subtree_of b (set ks i k) (set vs i v) cs ≡ record { is_branch = b; height = height_of b cs; parts = set (parts_of b ks vs cs) i ((k, v) ∷ []) }
+    → subtree_of b (set ks i k) (set vs i v) cs ≡ record { is_branch = b; height = height_of b cs; parts = set (parts_of b ks vs cs) i ((k, v) ∷ []); fills = map fill_of cs }
 leaf_set_view true ks vs cs i k v e n = absurd (cc)
-leaf_set_view false ks vs cs i k v e n = same_subtree false false 0 0 _ _ refl refl (set-single_rows ks vs i k v n.kind.1)
+leaf_set_view false ks vs cs i k v e n = same_subtree false false 0 0 _ _ _ _ refl refl (set-single_rows ks vs i k v n.kind.1) refl
 
 module _ {K V : Type 0} (cmp : K → K → Ordering) (k : K) (ps : List (List (K × V))) (i : ℕ) where
   pub rows_at : (h : IsAt cmp k ps i) → joined ps ≡ joined (take i ps) ++ (h.row.0, h.row.1) ∷ joined (drop (suc i) ps)
@@ -99,14 +99,14 @@ branch_set_node {K} {V} true ks vs cs i k c e n lt first level =
     branch_node true (set ks i k) vs (set cs i c) (height_over cs) refl n.kind.0 (subst (λ (ds : List (Subtree K V)). AllHigh (height_over cs) ds) (sym at) high) (cc)
 
 pub branch_set_view : {K V : Type 0} (b : Bool) (ks ks' : List K) (vs : List V) (cs : List (Subtree K V)) (i : ℕ) (c : Subtree K V) → b ≡ true → IsNode b ks vs cs → i < length ks
-    → height_of b cs ≡ suc c.height → subtree_of b ks' vs (set cs i c) ≡ record { is_branch = b; height = height_of b cs; parts = set (parts_of b ks vs cs) i (rows c) }
+    → height_of b cs ≡ suc c.height → subtree_of b ks' vs (set cs i c) ≡ record { is_branch = b; height = height_of b cs; parts = set (parts_of b ks vs cs) i (rows c); fills = set (map fill_of cs) i (fill_of c) }
 branch_set_view false ks ks' vs cs i c e n lt level = absurd (cc)
 branch_set_view {K} {V} true ks ks' vs cs i c e n lt level =
     let long = length-children true ks vs cs refl n in
     let at = set_split cs i c (omega arith) in
     let high : AllHigh (height_over cs) (take i cs ++ c ∷ drop (suc i) cs) = AllHigh-append (height_over cs) (take i cs) (c ∷ drop (suc i) cs) (AllHigh-take (height_over cs) i cs n.kind.1) (sym level, AllHigh-drop (height_over cs) (suc i) cs n.kind.1) in
     let high' : AllHigh (height_over cs) (set cs i c) = subst (λ (ds : List (Subtree K V)). AllHigh (height_over cs) ds) (sym at) high in
-    same_subtree true true _ _ _ _ refl (height_over-high (height_over cs) (set cs i c) high' (omega (arith, length-set cs i c))) (map-set rows cs i c)
+    same_subtree true true _ _ _ _ _ _ refl (height_over-high (height_over cs) (set cs i c) high' (omega (arith, length-set cs i c))) (map-set rows cs i c) (map-set fill_of cs i c)
 
 -- a part with another behind it
 pub joined-set-insert : {X : Type 0} (ps : List (List X)) (i : ℕ) (p q : List X) → i < length ps → joined (insert (set ps i p) (i + 1) q) ≡ joined (take i ps) ++ ((p ++ q) ++ joined (drop (suc i) ps))

@@ -2,8 +2,9 @@
 use Rattle.std.proofs.Common.{◌≡◌, ℕ, zero, suc, ◌<◌, ◌≤◌, List, [], ◌∷◌, ◌++◌, length, map, take, drop, get_or, Some, Bool, true, false, refl, sym, ◌∙◌, ap, subst, arith}
 use Rattle.std.specs.List.{insert, remove}
 use Rattle.std.specs.declared.boxed.Box.{Box}
-use Rattle.std.proofs.lemmas.List.{map-append, take-map, drop-map, length-drop, length-map, length-append, get_or-map}
-use Rattle.tf_btree.specs.Subtree.{Subtree, joined, rows}
+use Rattle.std.proofs.lemmas.List.{append-nil, map-append, take-map, drop-map, length-drop, length-map, length-append, get_or-map}
+use Rattle.tf_btree.specs.Shape.{Fill}
+use Rattle.tf_btree.specs.Subtree.{Subtree, joined, rows, fill_of}
 use Rattle.tf_btree.specs.Node.{first_key, single_rows, AllHigh, height_over, height_of, parts_of, subtree_of, IsNode, HasRoom, unbox, unboxed}
 use Rattle.tf_btree.proofs.Runs.{single_rows-append, take-single_rows, drop-single_rows, single_rows-first, same_take, same_drop, insert-single_rows, remove-single_rows, map-insert, map-remove, AllHigh-append, AllHigh-take, AllHigh-drop, height_over-high, AllHigh-own}
 
@@ -16,11 +17,14 @@ same_height {K} {V} e = ap (λ (s : Subtree K V). s.height) e
 pub same_parts : {K V : Type 0} {s t : Subtree K V} → s ≡ t → s.parts ≡ t.parts
 same_parts {K} {V} e = ap (λ (s : Subtree K V). s.parts) e
 
--- three equal fields make equal subtrees
-pub same_subtree : {K V : Type 0} (b b' : Bool) (h h' : ℕ) (p p' : List (List (K × V))) → b ≡ b' → h ≡ h' → p ≡ p' → (let s : Subtree K V = record { is_branch = b; height = h; parts = p } in s) ≡ record { is_branch = b'; height = h'; parts = p' }
-same_subtree {K} {V} b b' h h' p p' eb eh ep =
-    let at : Bool → ℕ → List (List (K × V)) → Subtree K V = λ x y z. record { is_branch = x; height = y; parts = z } in
-    ap (λ x. at x h p) eb ∙ ap (λ y. at b' y p) eh ∙ ap (λ z. at b' h' z) ep
+pub same_fills : {K V : Type 0} {s t : Subtree K V} → s ≡ t → s.fills ≡ t.fills
+same_fills {K} {V} e = ap (λ (s : Subtree K V). s.fills) e
+
+-- equal fields make equal subtrees
+pub same_subtree : {K V : Type 0} (b b' : Bool) (h h' : ℕ) (p p' : List (List (K × V))) (f f' : List Fill) → b ≡ b' → h ≡ h' → p ≡ p' → f ≡ f' → (let s : Subtree K V = record { is_branch = b; height = h; parts = p; fills = f } in s) ≡ record { is_branch = b'; height = h'; parts = p'; fills = f' }
+same_subtree {K} {V} b b' h h' p p' f f' eb eh ep ef =
+    let at : Bool → ℕ → List (List (K × V)) → List Fill → Subtree K V = λ x y z w. record { is_branch = x; height = y; parts = z; fills = w } in
+    ap (λ x. at x h p f) eb ∙ ap (λ y. at b' y p f) eh ∙ ap (λ z. at b' h' z f) ep ∙ ap (λ w. at b' h' p' w) ef
 
 -- room does not shrink
 pub room_after : (m : ℕ) (b : Bool) (n k v c n' k' v' c' : ℕ) → HasRoom m b n k v c → n' ≤ m → k ≤ k' → v ≤ v' → c ≤ c' → HasRoom m b n' k' v' c'
@@ -56,13 +60,13 @@ pub branch_node : {K V : Type 0} (b : Bool) (ks : List K) (vs : List V) (cs : Li
 branch_node false ks vs cs h e none high firsts = absurd (cc)
 branch_node true ks vs cs h e none high firsts = record { kind = (none, AllHigh-own h cs high); first_keys = firsts }
 
-pub leaf_view : {K V : Type 0} (b : Bool) (ks : List K) (vs : List V) (cs : List (Subtree K V)) (p : List (List (K × V))) → b ≡ false → single_rows ks vs ≡ p → subtree_of b ks vs cs ≡ record { is_branch = false; height = 0; parts = p }
+pub leaf_view : {K V : Type 0} (b : Bool) (ks : List K) (vs : List V) (cs : List (Subtree K V)) (p : List (List (K × V))) → b ≡ false → single_rows ks vs ≡ p → subtree_of b ks vs cs ≡ record { is_branch = false; height = 0; parts = p; fills = map fill_of cs }
 leaf_view true ks vs cs p e same = absurd (cc)
-leaf_view false ks vs cs p e same = same_subtree false false 0 0 _ p refl refl same
+leaf_view false ks vs cs p e same = same_subtree false false 0 0 _ p _ _ refl refl same refl
 
-pub branch_view : {K V : Type 0} (b : Bool) (ks : List K) (vs : List V) (cs : List (Subtree K V)) (h : ℕ) (p : List (List (K × V))) → b ≡ true → height_over cs ≡ h → map rows cs ≡ p → subtree_of b ks vs cs ≡ record { is_branch = true; height = h; parts = p }
-branch_view false ks vs cs h p e high same = absurd (cc)
-branch_view true ks vs cs h p e high same = same_subtree true true _ h _ p refl high same
+pub branch_view : {K V : Type 0} (b : Bool) (ks : List K) (vs : List V) (cs : List (Subtree K V)) (h : ℕ) (p : List (List (K × V))) (f : List Fill) → b ≡ true → height_over cs ≡ h → map rows cs ≡ p → map fill_of cs ≡ f → subtree_of b ks vs cs ≡ record { is_branch = true; height = h; parts = p; fills = f }
+branch_view false ks vs cs h p f e high same fills = absurd (cc)
+branch_view true ks vs cs h p f e high same fills = same_subtree true true _ h _ p _ f refl high same fills
 
 pub unboxed-insert : {X Z : Type 0} (bs : List (Box X Z)) (i : ℕ) (b : Box X Z) → unboxed (insert bs i b) ≡ insert (unboxed bs) i b.value
 unboxed-insert bs i b = map-insert unbox bs i b
@@ -100,11 +104,11 @@ branch_insert_node true ks vs cs i k c e n level first =
     branch_node true (insert ks i k) vs (insert cs i c) (suc c.height) refl n.kind.0 (AllHigh-insert (suc c.height) cs i c high refl) (cc)
 
 pub branch_insert_view : {K V : Type 0} (b : Bool) (ks ks' : List K) (vs : List V) (cs : List (Subtree K V)) (i : ℕ) (c : Subtree K V) → b ≡ true → IsNode b ks vs cs
-    → (0 < length (parts_of b ks vs cs) → height_of b cs ≡ suc c.height) → subtree_of b ks' vs (insert cs i c) ≡ record { is_branch = true; height = suc c.height; parts = insert (parts_of b ks vs cs) i (rows c) }
+    → (0 < length (parts_of b ks vs cs) → height_of b cs ≡ suc c.height) → subtree_of b ks' vs (insert cs i c) ≡ record { is_branch = true; height = suc c.height; parts = insert (parts_of b ks vs cs) i (rows c); fills = insert (map fill_of cs) i (fill_of c) }
 branch_insert_view false ks ks' vs cs i c e n level = absurd (cc)
 branch_insert_view true ks ks' vs cs i c e n level =
     let high = high_as cs (suc c.height) n.kind.1 (λ (some : 0 < length cs). level (omega (arith, length-map cs rows))) in
-    branch_view true ks' vs (insert cs i c) (suc c.height) _ refl (height_over-high _ _ (AllHigh-insert (suc c.height) cs i c high refl) (length_insert_pos cs i c)) (map-insert rows cs i c)
+    branch_view true ks' vs (insert cs i c) (suc c.height) _ _ refl (height_over-high _ _ (AllHigh-insert (suc c.height) cs i c high refl) (length_insert_pos cs i c)) (map-insert rows cs i c) (map-insert fill_of cs i c)
 
 -- a leaf with one more row
 pub leaf_insert_node : {K V : Type 0} (b : Bool) (ks : List K) (vs : List V) (cs : List (Subtree K V)) (i : ℕ) (k : K) (v : V) → b ≡ false → IsNode b ks vs cs → IsNode b (insert ks i k) (insert vs i v) cs
@@ -115,9 +119,9 @@ leaf_insert_node b ks vs cs i k v e n =
     leaf_node b (insert ks i k) (insert vs i v) cs e old.0 (omega (arith, length-append (take i ks) (k ∷ drop i ks), length-append (take i vs) (v ∷ drop i vs)))
 
 pub leaf_insert_view : {K V : Type 0} (b : Bool) (ks : List K) (vs : List V) (cs : List (Subtree K V)) (i : ℕ) (k : K) (v : V) → b ≡ false → IsNode b ks vs cs
-    → subtree_of b (insert ks i k) (insert vs i v) cs ≡ record { is_branch = b; height = height_of b cs; parts = insert (parts_of b ks vs cs) i ((k, v) ∷ []) }
+    → subtree_of b (insert ks i k) (insert vs i v) cs ≡ record { is_branch = b; height = height_of b cs; parts = insert (parts_of b ks vs cs) i ((k, v) ∷ []); fills = map fill_of cs }
 leaf_insert_view true ks vs cs i k v e n = absurd (cc)
-leaf_insert_view false ks vs cs i k v e n = same_subtree false false 0 0 _ _ refl refl (insert-single_rows ks vs i k v n.kind.1)
+leaf_insert_view false ks vs cs i k v e n = same_subtree false false 0 0 _ _ _ _ refl refl (insert-single_rows ks vs i k v n.kind.1) refl
 
 get_or-single_rows : {K V : Type 0} (ks : List K) (vs : List V) (i : ℕ) (k : K) (v : V) → length ks ≡ length vs → i < length ks → k ≡ get_or ks i k → v ≡ get_or vs i v → get_or (single_rows ks vs) i ((k, v) ∷ []) ≡ (k, v) ∷ []
 get_or-single_rows [] vs i k v e lt a b = absurd (omega arith)
@@ -140,9 +144,9 @@ leaf_remove_node b ks vs cs i e n =
     leaf_node b (remove ks i) (remove vs i) cs e old.0 (omega (arith, length-append (take i ks) (drop (suc i) ks), length-append (take i vs) (drop (suc i) vs)))
 
 pub leaf_remove_view : {K V : Type 0} (b : Bool) (ks : List K) (vs : List V) (cs : List (Subtree K V)) (i : ℕ) → b ≡ false → IsNode b ks vs cs
-    → subtree_of b (remove ks i) (remove vs i) cs ≡ record { is_branch = b; height = height_of b cs; parts = remove (parts_of b ks vs cs) i }
+    → subtree_of b (remove ks i) (remove vs i) cs ≡ record { is_branch = b; height = height_of b cs; parts = remove (parts_of b ks vs cs) i; fills = map fill_of cs }
 leaf_remove_view true ks vs cs i e n = absurd (cc)
-leaf_remove_view false ks vs cs i e n = same_subtree false false 0 0 _ _ refl refl (remove-single_rows ks vs i n.kind.1)
+leaf_remove_view false ks vs cs i e n = same_subtree false false 0 0 _ _ _ _ refl refl (remove-single_rows ks vs i n.kind.1) refl
 
 -- a branch with one child less
 pub branch_remove_node : {K V : Type 0} (b : Bool) (ks : List K) (vs : List V) (cs : List (Subtree K V)) (i : ℕ) → b ≡ true → IsNode b ks vs cs → IsNode b (remove ks i) vs (remove cs i)
@@ -189,6 +193,24 @@ child_entry {K} {V} {A} true ks vs bs i x e n lt is d =
     let boxes : length (unboxed bs) ≡ length bs = length-map bs (unbox {X = Subtree K V} {Z = A}) in
     let same : get_or (unboxed bs) i x.value ≡ x.value = get_or-map unbox bs i x x.value (omega arith) ∙ ap unbox (sym is) in
     get_or-map rows (unboxed bs) i x.value d (omega arith) ∙ ap rows same
+
+-- the fill of a branch's child
+pub child_fill : {K V A : Type 0} (b : Bool) (ks : List K) (vs : List V) (bs : List (Box (Subtree K V) A)) (i : ℕ) (x : Box (Subtree K V) A) → b ≡ true → IsNode b ks vs (unboxed bs) → i < length ks
+    → x ≡ get_or bs i x → (d : Fill) → get_or (map fill_of (unboxed bs)) i d ≡ fill_of x.value
+child_fill {K} {V} {A} b ks vs bs i x e n lt is d =
+    let long : length (unboxed bs) ≡ length ks = length-children b ks vs (unboxed bs) e n in
+    let boxes : length (unboxed bs) ≡ length bs = length-map bs (unbox {X = Subtree K V} {Z = A}) in
+    let same : get_or (unboxed bs) i x.value ≡ x.value = get_or-map unbox bs i x x.value (omega arith) ∙ ap unbox (sym is) in
+    get_or-map fill_of (unboxed bs) i x.value d (omega arith) ∙ ap fill_of same
+
+-- a leaf has no children, a branch one for each entry
+pub leaf_fills : {K V : Type 0} (b : Bool) (ks : List K) (vs : List V) (cs : List (Subtree K V)) (s : Subtree K V) → IsNode b ks vs cs → subtree_of b ks vs cs ≡ s → s.is_branch ≡ false → s.fills ≡ []
+leaf_fills b ks vs cs s n is e = sym (same_fills is) ∙ ap (map fill_of) (leaf_same b ks vs cs (same_kind is ∙ e) n).0
+
+pub length-fills : {K V : Type 0} (b : Bool) (ks : List K) (vs : List V) (cs : List (Subtree K V)) (s : Subtree K V) → IsNode b ks vs cs → subtree_of b ks vs cs ≡ s → s.is_branch ≡ true → length s.fills ≡ length s.parts
+length-fills b ks vs cs s n is e =
+    let long = length-seen b ks vs cs s n is in
+    ap length (sym (same_fills is)) ∙ length-map cs fill_of ∙ length-children b ks vs cs (same_kind is ∙ e) n ∙ sym long
 
 get_or-first : {K V : Type 0} (ks : List K) (ps : List (List (K × V))) (i : ℕ) (k : K) (d : List (K × V)) → map Some ks ≡ map first_key ps → i < length ks → Some (get_or ks i k) ≡ first_key (get_or ps i d)
 get_or-first [] ps i k d e lt = absurd (omega arith)
@@ -263,11 +285,11 @@ leaf_append_node b b' ks ls vs ws cs ds e m e' m' =
     let more = leaf_same b' ls ws ds e' m' in
     leaf_node b (ks ++ ls) (vs ++ ws) cs e old.0 (omega (arith, old.1, more.1, length-append ks ls, length-append vs ws))
 
-pub leaf_append_view : {K V : Type 0} (b b' : Bool) (ks ls : List K) (vs ws : List V) (cs ds : List (Subtree K V)) → b ≡ false → IsNode b ks vs cs → b' ≡ false
-    → subtree_of b (ks ++ ls) (vs ++ ws) cs ≡ record { is_branch = b; height = height_of b cs; parts = parts_of b ks vs cs ++ parts_of b' ls ws ds }
-leaf_append_view true b' ks ls vs ws cs ds e m e' = absurd (cc)
-leaf_append_view false true ks ls vs ws cs ds e m e' = absurd (cc)
-leaf_append_view false false ks ls vs ws cs ds e m e' = same_subtree false false 0 0 _ _ refl refl (single_rows-append ks ls vs ws m.kind.1)
+pub leaf_append_view : {K V : Type 0} (b b' : Bool) (ks ls : List K) (vs ws : List V) (cs ds : List (Subtree K V)) → b ≡ false → IsNode b ks vs cs → b' ≡ false → IsNode b' ls ws ds
+    → subtree_of b (ks ++ ls) (vs ++ ws) cs ≡ record { is_branch = b; height = height_of b cs; parts = parts_of b ks vs cs ++ parts_of b' ls ws ds; fills = map fill_of cs ++ map fill_of ds }
+leaf_append_view true b' ks ls vs ws cs ds e m e' m' = absurd (cc)
+leaf_append_view false true ks ls vs ws cs ds e m e' m' = absurd (cc)
+leaf_append_view false false ks ls vs ws cs ds e m e' m' = same_subtree false false 0 0 _ _ _ _ refl refl (single_rows-append ks ls vs ws m.kind.1) (sym (append-nil (map fill_of cs)) ∙ ap (λ fs. map fill_of cs ++ fs) (sym (ap (map fill_of) m'.kind.0)))
 
 pub branch_append_node : {K V : Type 0} (b b' : Bool) (ks ls : List K) (vs ws : List V) (cs ds : List (Subtree K V)) → b ≡ true → IsNode b ks vs cs → b' ≡ true → IsNode b' ls ws ds → height_of b cs ≡ height_of b' ds → IsNode b (ks ++ ls) vs (cs ++ ds)
 branch_append_node false b' ks ls vs ws cs ds e m e' m' h = absurd (cc)

@@ -1,3 +1,4 @@
+pub mod Filled
 pub mod Runs
 pub mod Entries
 pub mod Order
@@ -5,5 +6,8 @@ pub mod Parts
 pub mod Placed
 pub mod Edited
 pub mod Children
+pub mod InPlace
 pub mod Count
+pub mod Leaves
 pub mod RunLemmas
+pub mod Within

@@ -107,7 +107,7 @@ module _ {K V : Type 0} (cmp : K → K → Ordering) where
         let at : is_gt (cmp y.0 k) ≡ true = subst (λ (q : K). is_gt (cmp q k) ≡ true) (sym (first_is y ys f e)) g in
         (greater_is cmp total (cmp y.0 k) at, beyond_after y.0 k ys (not_less_from_greater cmp total (cmp y.0 k) at) h.0)
 
-  below-before : (k : K) (xs : List (K × V)) → AllBefore cmp k xs → rows_below cmp k xs ≡ xs
+  pub below-before : (k : K) (xs : List (K × V)) → AllBefore cmp k xs → rows_below cmp k xs ≡ xs
   below-before k [] a = refl
   below-before k (x ∷ xs) a = rw a.0 (ap (λ r. x ∷ r) (below-before k xs a.1))
 

@@ -11,7 +11,7 @@ use Rattle.tf_btree.specs.Subtree.{Subtree, joined, rows}
 use Rattle.tf_btree.specs.Node.{first_key, single_rows, subtree_of, IsNode}
 use Rattle.tf_btree.specs.Rows.{IsRising, rows_from, value_at}
 use Rattle.tf_btree.specs.Place.{AllBefore, IsBelow}
-use Rattle.tf_btree.specs.Run.{pairs, IsRunFrom, rows_after}
+use Rattle.tf_btree.specs.Run.{pairs, rows_of, AllLeaves, IsRunFrom, rows_after}
 use Rattle.tf_btree.specs.Cursor.{IsKeyOf}
 use Rattle.std.proofs.lemmas.Cmp.{tied_itself}
 use Rattle.tf_btree.proofs.Runs.{drop-single_rows, same_drop, length-single_rows}
@@ -60,19 +60,20 @@ module _ {K V : Type 0} (cmp : K → K → Ordering) (total : IsTotalOrder cmp) 
           nothing_first (joined (drop n (single_rows ks vs))) f (ap joined none) e)
     ]
 
-    pub leaf_run_from : IsRunFrom cmp k (rows s) (drop n ks) (drop n vs) None
+    pub leaf_run_from : IsRunFrom cmp k (rows s) (drop n ks) (drop n vs) [] None
     leaf_run_from =
         let split = joined-take-drop n (single_rows ks vs) in
         let at : IsRising cmp (joined (take n (single_rows ks vs)) ++ joined (drop n (single_rows ks vs))) = subst (λ (r : List (K × V)). IsRising cmp r) split inside in
         record {
           same = same_drop n ks vs same;
+          filled = tt;
           front = rows s;
           back = [];
           split = sym (append-nil (rows s));
           begins = refl;
           all = ap (λ (r : List (K × V)). rows_from cmp k r) (the_rows ∙ split)
               ∙ from_place (joined (take n (single_rows ks vs))) (joined (drop n (single_rows ks vs))) at (leaf_before cmp total k ks vs same firsts inside n k le (before k)) first_behind
-              ∙ ap joined (sym (drop-single_rows n ks vs)) ∙ sym (append-nil (pairs (drop n ks) (drop n vs)));
+              ∙ ap joined (sym (drop-single_rows n ks vs)) ∙ sym (append-nil (pairs (drop n ks) (drop n vs))) ∙ sym (append-nil (pairs (drop n ks) (drop n vs) ++ []));
         }
 
     pub leaf_run_some : IsSome (value_at cmp k (rows s)) → 0 < length (drop n ks)
@@ -93,20 +94,44 @@ first_key-or [] r = refl
 first_key-or (x ∷ p) r = refl
 
 -- a run of a child is one of its branch, with what follows in the branch behind it
-pub branch_run : {K V : Type 0} (cmp : K → K → Ordering) (k : K) (ps : List (List (K × V))) (i : ℕ) (p : List (K × V)) (ks : List K) (vs : List V) (next behind : Option K) → IsBelow cmp k ps i → get_or ps i [] ≡ p
-    → IsRunFrom cmp k p ks vs next → first_key (joined (drop (i + 1) ps)) ≡ behind → IsRunFrom cmp k (joined ps) ks vs (option_or next behind)
-branch_run {K} {V} cmp k ps i p ks vs next behind h entry run last =
+pub branch_run : {K V : Type 0} (cmp : K → K → Ordering) (k : K) (ps : List (List (K × V))) (i : ℕ) (p : List (K × V)) (ks : List K) (vs : List V) (leaves : List (Subtree K V)) (next behind : Option K) → IsBelow cmp k ps i → get_or ps i [] ≡ p
+    → IsRunFrom cmp k p ks vs leaves next → first_key (joined (drop (i + 1) ps)) ≡ behind → IsRunFrom cmp k (joined ps) ks vs leaves (option_or next behind)
+branch_run {K} {V} cmp k ps i p ks vs leaves next behind h entry run last =
     let c = joined (drop (suc i) ps) in
     let at : i + 1 ≡ suc i = omega arith in
     let last' : first_key c ≡ behind = subst (λ (j : ℕ). first_key (joined (drop j ps)) ≡ behind) at last in
     let split : joined ps ≡ joined (take i ps) ++ (p ++ c) = joined_split ps i [] h.in_range ∙ ap (λ (r : List (K × V)). joined (take i ps) ++ (r ++ c)) entry in
     record {
       same = run.same;
+      filled = run.filled;
       front = joined (take i ps) ++ run.front;
       back = run.back ++ c;
       split = split ∙ ap (λ (r : List (K × V)). joined (take i ps) ++ (r ++ c)) run.split ∙ ap (λ (r : List (K × V)). joined (take i ps) ++ r) (append_assoc run.front run.back c) ∙ sym (append_assoc (joined (take i ps)) run.front (run.back ++ c));
       begins = first_key-or run.back c ∙ ap (λ (o : Option K). option_or o (first_key c)) run.begins ∙ ap (λ (o : Option K). option_or next o) last';
-      all = ap (λ (r : List (K × V)). rows_from cmp k r) split ∙ from-among cmp k (joined (take i ps)) p c h.among ∙ ap (λ (r : List (K × V)). r ++ c) run.all ∙ append_assoc (pairs ks vs) run.back c;
+      all = ap (λ (r : List (K × V)). rows_from cmp k r) split ∙ from-among cmp k (joined (take i ps)) p c h.among ∙ ap (λ (r : List (K × V)). r ++ c) run.all ∙ append_assoc (pairs ks vs ++ rows_of leaves) run.back c;
+    }
+
+nothing_behind : {K V : Type 0} (d : List (K × V)) → first_key d ≡ None → d ≡ []
+nothing_behind [] e = refl
+nothing_behind (y ∷ ys) e = absurd (let n : Some y.0 ≡ None = e in cc)
+
+-- a run of a leaf is one of the branch over it, with the leaves behind it
+pub bottom_run : {K V : Type 0} (cmp : K → K → Ordering) (k : K) (ps : List (List (K × V))) (i : ℕ) (p : List (K × V)) (ks : List K) (vs : List V) (leaves : List (Subtree K V)) → IsBelow cmp k ps i → get_or ps i [] ≡ p
+    → IsRunFrom cmp k p ks vs [] None → rows_of leaves ≡ joined (drop (i + 1) ps) → AllLeaves leaves → IsRunFrom cmp k (joined ps) ks vs leaves None
+bottom_run {K} {V} cmp k ps i p ks vs leaves h entry run all filled =
+    let c = joined (drop (suc i) ps) in
+    let at : i + 1 ≡ suc i = omega arith in
+    let behind : rows_of leaves ≡ c = subst (λ (j : ℕ). rows_of leaves ≡ joined (drop j ps)) at all in
+    let split : joined ps ≡ joined (take i ps) ++ (p ++ c) = joined_split ps i [] h.in_range ∙ ap (λ (r : List (K × V)). joined (take i ps) ++ (r ++ c)) entry in
+    let own : rows_from cmp k p ≡ pairs ks vs = run.all ∙ ap (λ (r : List (K × V)). (pairs ks vs ++ []) ++ r) (nothing_behind run.back run.begins) ∙ append-nil (pairs ks vs ++ []) ∙ append-nil (pairs ks vs) in
+    record {
+      same = run.same;
+      filled = filled;
+      front = joined ps;
+      back = [];
+      split = sym (append-nil (joined ps));
+      begins = refl;
+      all = ap (λ (r : List (K × V)). rows_from cmp k r) split ∙ from-among cmp k (joined (take i ps)) p c h.among ∙ ap (λ (r : List (K × V)). r ++ c) own ∙ ap (λ (r : List (K × V)). pairs ks vs ++ r) (sym behind) ∙ sym (append-nil (pairs ks vs ++ rows_of leaves));
     }
 
 -- what lies behind a run: the rows from the next key on, which is one of theirs
@@ -128,11 +153,11 @@ behind_facts {K} {V} cmp total front (y ∷ ys) (Some k) h e =
       subst (λ (o : Option V). IsSome o) (sym at) refl,
     )
 
-pub run_behind : {K V : Type 0} (cmp : K → K → Ordering) (total : IsTotalOrder cmp) (k : K) (all_rows : List (K × V)) (ks : List K) (vs : List V) (next : Option K) (run : IsRunFrom cmp k all_rows ks vs next) → IsRising cmp all_rows
-    → (rows_from cmp k all_rows ≡ pairs ks vs ++ rows_after cmp next all_rows) × IsKeyOf cmp all_rows next
-run_behind {K} {V} cmp total k all_rows ks vs next run rising =
+pub run_behind : {K V : Type 0} (cmp : K → K → Ordering) (total : IsTotalOrder cmp) (k : K) (all_rows : List (K × V)) (ks : List K) (vs : List V) (leaves : List (Subtree K V)) (next : Option K) (run : IsRunFrom cmp k all_rows ks vs leaves next) → IsRising cmp all_rows
+    → (rows_from cmp k all_rows ≡ (pairs ks vs ++ rows_of leaves) ++ rows_after cmp next all_rows) × IsKeyOf cmp all_rows next
+run_behind {K} {V} cmp total k all_rows ks vs leaves next run rising =
     let facts = behind_facts cmp total run.front run.back next (subst (λ (r : List (K × V)). IsRising cmp r) run.split rising) run.begins in (
-      run.all ∙ ap (λ (r : List (K × V)). pairs ks vs ++ r) (sym facts.0 ∙ ap (λ (r : List (K × V)). rows_after cmp next r) (sym run.split)),
+      run.all ∙ ap (λ (r : List (K × V)). (pairs ks vs ++ rows_of leaves) ++ r) (sym facts.0 ∙ ap (λ (r : List (K × V)). rows_after cmp next r) (sym run.split)),
       subst (λ (r : List (K × V)). IsKeyOf cmp r next) (sym run.split) facts.1,
     )
 

@@ -1,5 +1,5 @@
 -- What an edit of a node's runs makes of its entries.
-use Rattle.std.proofs.Common.{◌≡◌, ℕ, zero, suc, ◌<◌, List, [], ◌∷◌, ◌++◌, length, map, take, drop, Some, refl, sym, ap, subst, arith}
+use Rattle.std.proofs.Common.{◌≡◌, ℕ, zero, suc, ◌<◌, List, [], ◌∷◌, ◌++◌, length, map, take, drop, Some, refl, sym, ◌∙◌, ap, subst, arith}
 use Rattle.std.specs.List.{insert, remove}
 use Rattle.std.proofs.lemmas.List.{map-append, take-map, drop-map, length-take, length-drop}
 use Rattle.tf_btree.specs.Subtree.{Subtree}
@@ -94,3 +94,14 @@ height_over-high h (c ∷ cs) a some = a.0
 pub AllHigh-own : {K V : Type 0} (h : ℕ) (cs : List (Subtree K V)) → AllHigh h cs → AllHigh (height_over cs) cs
 AllHigh-own h [] a = tt
 AllHigh-own h (c ∷ cs) a = subst (λ (m : ℕ). AllHigh m (c ∷ cs)) (sym a.0) a
+
+-- no elements have none among the first, and none behind them
+pub take_none : {X : Type 0} (n : ℕ) (xs : List X) → xs ≡ [] → xs ≡ take n xs
+take_none zero xs e = e
+take_none (suc n) [] e = refl
+take_none (suc n) (x ∷ xs) e = absurd (cc)
+
+pub drop_none : {X : Type 0} (n : ℕ) (xs ys : List X) → xs ≡ [] → ys ≡ [] → ys ≡ drop n xs
+drop_none zero xs ys e f = f ∙ sym e
+drop_none (suc n) [] ys e f = f
+drop_none (suc n) (x ∷ xs) ys e f = absurd (cc)

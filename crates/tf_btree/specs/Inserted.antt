@@ -1,7 +1,8 @@
 -- What an edit of a node leaves.
-use Rattle.std.specs.Prelude.{◌≡◌, ◌<◌, List, [], ◌++◌, length, Option, Some, None}
+use Rattle.std.specs.Prelude.{◌≡◌, ◌<◌, List, [], ◌∷◌, ◌++◌, length, Option, Some, None, Bool, false}
 use Rattle.std.specs.declared.boxed.Box.{Box}
-use Rattle.tf_btree.specs.Subtree.{Subtree, rows}
+use Rattle.tf_btree.specs.Shape.{Fill, IsFilled}
+use Rattle.tf_btree.specs.Subtree.{Subtree, rows, fill_of}
 
 -- the node is of its old kind and height, and has entries
 pub record KeepsLevel {K V : Type 0} (old new : Subtree K V) : Type 0 where
@@ -24,3 +25,13 @@ pub record IsSplitOf {K V : Type 0} (old new right : Subtree K V) (all_rows : Li
 abbrev pub rows_behind : {K V A : Type 0} → Option (Box (Subtree K V) A) → List (K × V)
 rows_behind None = []
 rows_behind (Some b) = rows b.value
+
+-- the node that was split off, if one was, as its parent sees it
+abbrev pub fills_behind : {K V A : Type 0} → Option (Box (Subtree K V) A) → List Fill
+fills_behind None = []
+fills_behind (Some b) = fill_of b.value ∷ []
+
+-- the node is filled; where one was split off, that one may be on the right edge instead of it
+abbrev pub IsFilledWith : {K V A : Type 0} → Bool → Subtree K V → Option (Box (Subtree K V) A) → Type 0
+IsFilledWith edge new None = IsFilled edge (fill_of new)
+IsFilledWith edge new (Some b) = IsFilled false (fill_of new) × IsFilled edge (fill_of b.value)

@@ -1,5 +1,7 @@
 pub mod Rows
+pub mod Shape
 pub mod Subtree
+pub mod Code
 pub mod Node
 pub mod Falls
 pub mod Place
@@ -7,3 +9,5 @@ pub mod Inserted
 pub mod Tree
 pub mod Run
 pub mod Cursor
+pub mod RunBack
+pub mod BackCursor

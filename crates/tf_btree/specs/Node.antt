@@ -2,7 +2,7 @@
 use Rattle.std.specs.Prelude.{◌≡◌, ℕ, suc, ◌≤◌, List, [], ◌∷◌, length, map, max, Option, Some, None, Bool, true, false}
 use Rattle.std.specs.declared.boxed.Box.{Box}
 use Rattle.std.proofs.Common.{arith}
-use Rattle.tf_btree.specs.Subtree.{Subtree, rows}
+use Rattle.tf_btree.specs.Subtree.{Subtree, rows, fill_of}
 use denote.Param.Weighed.{most}
 
 -- the key of the first row, if there is one
@@ -40,7 +40,7 @@ height_of false cs = 0
 height_of true cs = height_over cs
 
 abbrev pub subtree_of : {K V : Type 0} → Bool → List K → List V → List (Subtree K V) → Subtree K V
-subtree_of b ks vs cs = record { is_branch = b; height = height_of b cs; parts = parts_of b ks vs cs }
+subtree_of b ks vs cs = record { is_branch = b; height = height_of b cs; parts = parts_of b ks vs cs; fills = map fill_of cs }
 
 -- each of these subtrees is this high, counted from 1
 abbrev pub AllHigh : {K V : Type 0} → ℕ → List (Subtree K V) → Type 0

@@ -1,24 +1,25 @@
 //! Cursors over the rows of a tree.
-ghost use Rattle.std.specs.Prelude.{◌≡◌, ◌<◌, [], length, IfNone, IfSome};
+ghost use Rattle.std.specs.Prelude.{◌≡◌, ◌<◌, ◌++◌, [], length, IfNone, IfSome};
 ghost use Rattle.std.specs.Iterator.{YieldsFirstBy, item_count};
+ghost use Rattle.tf_btree.specs.Node.{unboxed};
 ghost use Rattle.tf_btree.specs.Rows.{IsRising, rows_from};
-ghost use Rattle.tf_btree.specs.Run.{rows_after};
+ghost use Rattle.tf_btree.specs.Run.{AllLeaves, rows_of, rows_after};
 ghost use Rattle.tf_btree.specs.Cursor.{rows_at, IsKeyOf, IsNextRun};
 
 use crate::node::Node;
+use crate::run::Run;
 use std::alloc::Allocator;
 use std::marker::Model;
 
 /// The rows that are left of a tree, in key order, by reference.
 ///
-/// A contract sees a cursor as the list of these rows. A step within a leaf takes constant time; one to the next leaf
-/// takes a number of steps that grows with the logarithm of the rows.
+/// A contract sees a cursor as the list of these rows. A step takes constant time within a leaf and to the next leaf
+/// of a branch; from the last leaf of a branch it takes a number of steps that grows with the logarithm of the rows.
 #[derive(Drop)]
 pub struct Cursor<'a, K: Copy + Ord, V: Copy, A: Allocator> {
     root: Option<&'a Node<K, V, A>>,
-    keys: &'a [K],
-    values: &'a [V],
-    next: Option<K>,
+    run: Run<'a, K, V, A>,
+    at: usize,
 }
 
 impl<'a, K: Copy + Ord, V: Copy, A: Allocator> Model for Cursor<'a, K, V, A> {
@@ -26,22 +27,26 @@ impl<'a, K: Copy + Ord, V: Copy, A: Allocator> Model for Cursor<'a, K, V, A> {
 
     ghost Value = { List (K × V) };
 
+    ghost use Rattle.tf_btree.specs.Node.{unboxed};
     ghost use Rattle.tf_btree.specs.Cursor.{rows_left, IsCursor};
 
-    ghost view = { λ c. rows_left K.cmp c.root c.keys.now c.values.now c.next };
+    ghost view = { λ c. rows_left K.cmp c.root c.run.keys.now c.run.values.now c.at (unboxed c.run.leaves.now) c.run.further };
 
-    ghost invariant = { λ c. IsCursor K.cmp c.root c.keys.now c.values.now c.next };
+    ghost invariant = { λ c. IsCursor K.cmp c.root c.run.keys.now c.run.values.now c.at (unboxed c.run.leaves.now) c.run.further };
 }
 
-/// The run of rows that begins with the key `next` and the key of the run behind it, if there is one.
-fn next_run<'a, K: Copy + Ord, V: Copy, A: Allocator>(
+/// The run of rows that begins with the key `next`, if there is one.
+///
+/// It takes a number of steps that grows with the logarithm of the rows.
+fn run_at<'a, K: Copy + Ord, V: Copy, A: Allocator>(
     root: Option<&'a Node<K, V, A>>,
     next: Option<K>,
-) -> Option<(&'a [K], &'a [V], Option<K>)>
+) -> Option<Run<'a, K, V, A>>
     requires rising { IsRising K.cmp (rows_at root) }
     requires member { IsKeyOf K.cmp (rows_at root) next }
     ensures none { IfNone result (rows_after K.cmp next (rows_at root.entry) ≡ []) }
-    ensures some { IfSome result (λ r. IsNextRun K.cmp (rows_at root.entry) next r.0.now r.1.now r.2) }
+    ensures some { IfSome result
+        (λ r. IsNextRun K.cmp (rows_at root.entry) [] next r.keys.now r.values.now (unboxed r.leaves.now) r.further) }
 {
     match next {
         None => None,
@@ -49,6 +54,37 @@ fn next_run<'a, K: Copy + Ord, V: Copy, A: Allocator>(
             None => None,
             Some(root) => Some(root.run_from(&key)),
         },
+    }
+}
+
+/// The next run of rows: that of the first of `leaves`, in constant time, or else the one that begins with the key `next`.
+///
+/// It isn't part of the cursor's own `next`, so that a step within a leaf stays short.
+#[inline(never)]
+fn next_run<'a, K: Copy + Ord, V: Copy, A: Allocator>(
+    root: Option<&'a Node<K, V, A>>,
+    leaves: &'a [Box<Node<K, V, A>, A>],
+    next: Option<K>,
+) -> Option<Run<'a, K, V, A>>
+    requires rising { IsRising K.cmp (rows_at root) }
+    requires filled { AllLeaves (unboxed leaves.now) }
+    requires member { IsKeyOf K.cmp (rows_at root) next }
+    ensures none { IfNone result
+        (rows_of (unboxed leaves.now) ++ rows_after K.cmp next (rows_at root.entry) ≡ []) }
+    ensures some { IfSome result
+        (λ r. IsNextRun K.cmp (rows_at root.entry) (unboxed leaves.now) next r.keys.now r.values.now (unboxed r.leaves.now) r.further) }
+{
+    match leaves.split_first() {
+        None => run_at(root, next),
+        Some((leaf, behind)) => {
+            let (keys, values) = leaf.leaf_rows();
+            Some(Run {
+                keys,
+                values,
+                leaves: behind,
+                further: next,
+            })
+        }
     }
 }
 
@@ -62,19 +98,13 @@ impl<'a, K: Copy + Ord, V: Copy, A: Allocator> Cursor<'a, K, V, A> {
         match root {
             None => Cursor {
                 root: None,
-                keys: &[],
-                values: &[],
-                next: None,
+                run: Run::none(),
+                at: 0,
             },
             Some(top) => {
                 let first = top.first();
-                let (keys, values, next) = top.run_from(&first);
-                Cursor {
-                    root,
-                    keys,
-                    values,
-                    next,
-                }
+                let run = top.run_from(&first);
+                Cursor { root, run, at: 0 }
             }
         }
     }
@@ -88,18 +118,12 @@ impl<'a, K: Copy + Ord, V: Copy, A: Allocator> Cursor<'a, K, V, A> {
         match root {
             None => Cursor {
                 root: None,
-                keys: &[],
-                values: &[],
-                next: None,
+                run: Run::none(),
+                at: 0,
             },
             Some(top) => {
-                let (keys, values, next) = top.run_from(key);
-                Cursor {
-                    root,
-                    keys,
-                    values,
-                    next,
-                }
+                let run = top.run_from(key);
+                Cursor { root, run, at: 0 }
             }
         }
     }
@@ -116,17 +140,14 @@ impl<'a, K: Copy + Ord, V: Copy, A: Allocator> Iterator for Cursor<'a, K, V, A> 
         (0, None)
     }
 
+    #[inline]
     fn next(&mut self) -> Option<(&'a K, &'a V)> {
-        if self.keys.is_empty() {
-            let (keys, values, next) = next_run(self.root, self.next)?;
-            self.keys = keys;
-            self.values = values;
-            self.next = next;
+        if self.at == self.run.keys.len() {
+            self.run = next_run(self.root, self.run.leaves, self.run.further)?;
+            self.at = 0;
         }
-        let (key, keys) = self.keys.split_first()?;
-        let (value, values) = self.values.split_first()?;
-        self.keys = keys;
-        self.values = values;
-        Some((key, value))
+        let at = self.at;
+        self.at = at + 1;
+        Some((&self.run.keys[at], &self.run.values[at]))
     }
 }

@@ -5,10 +5,12 @@ ghost use Rattle.tf_btree.specs.Node.{first_key};
 
 mod edit;
 mod find;
+mod in_place;
 mod insert;
 mod remove;
 pub(crate) mod root;
 mod run;
+mod run_back;
 mod runs;
 
 use std::alloc::{AllocError, Allocator};
@@ -35,6 +37,10 @@ impl<K, V, A: Allocator> Model for Node<K, V, A> {
 
     ghost Value = { Subtree K V };
 
+    ghost use Rattle.tf_btree.specs.Code.{subtree_code};
+
+    ghost coded = { subtree_code K.code V.code };
+
     ghost use Rattle.tf_btree.specs.Node.{subtree_of, IsNode, HasRoom, unboxed};
 
     ghost view = { λ a. subtree_of a.is_branch a.keys.items a.values.items (unboxed a.children.items) };
@@ -54,7 +60,7 @@ impl<K: Copy, V: Copy, A: Allocator> Node<K, V, A> {
     pub(crate) fn new_leaf(alloc: A) -> Result<Self, AllocError>
     where
         A: Clone,
-        ensures { IfOk result (λ n. n ≡ record { is_branch = false; height = 0; parts = [] }) }
+        ensures { IfOk result (λ n. n ≡ record { is_branch = false; height = 0; parts = []; fills = [] }) }
     {
         let keys = Vec::with_capacity(alloc.clone()?, CAPACITY)?;
         let values = Vec::with_capacity(alloc.clone()?, CAPACITY)?;
@@ -71,7 +77,7 @@ impl<K: Copy, V: Copy, A: Allocator> Node<K, V, A> {
     pub(crate) fn new_branch(alloc: A) -> Result<Self, AllocError>
     where
         A: Clone,
-        ensures { IfOk result (λ n. n ≡ record { is_branch = true; height = 1; parts = [] }) }
+        ensures { IfOk result (λ n. n ≡ record { is_branch = true; height = 1; parts = []; fills = [] }) }
     {
         let keys = Vec::with_capacity(alloc.clone()?, CAPACITY)?;
         let values = Vec::new(alloc.clone()?);
@@ -90,6 +96,8 @@ impl<K: Copy, V: Copy, A: Allocator> Node<K, V, A> {
         ensures fits { result ≤ CAPACITY }
         ensures leaf_level { self.now.is_branch ≡ false → self.now.height ≡ 0 }
         ensures branch_level { self.now.is_branch ≡ true → 0 < self.now.height }
+        ensures leaf_fills { self.now.is_branch ≡ false → self.now.fills ≡ [] }
+        ensures branch_fills { self.now.is_branch ≡ true → length self.now.fills ≡ length self.now.parts }
     {
         self.keys.len()
     }

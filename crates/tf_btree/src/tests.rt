@@ -1,4 +1,7 @@
 //! The tree beside an ordered map.
+mod cursors;
+mod refusals;
+
 use super::Tree;
 use std::collections::BTreeMap;
 use std::test::Fail;

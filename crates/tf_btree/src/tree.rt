@@ -1,19 +1,24 @@
 //! The tree.
-ghost use Rattle.std.specs.Prelude.{◌≡◌, ◌+◌, [], length, None, IsTrue, ◌↔◌, IfOk, IfErr, OnOk, OnErr};
+ghost use Rattle.std.specs.Prelude.{◌≡◌, ◌+◌, [], length, reverse, None, IsTrue, ◌↔◌, IfOk, IfErr, OnOk, OnErr};
 ghost use Rattle.std.specs.Option.{option_copied};
-ghost use Rattle.tf_btree.specs.Rows.{IsRising, rows_from, value_at, with_row, without_row};
+ghost use Rattle.tf_btree.specs.Rows.{IsRising, rows_from, rows_upto, value_at, with_row, without_row};
 
+use crate::back_cursor::BackCursor;
 use crate::cursor::Cursor;
 use crate::node::Node;
 use crate::node::root::{insert_at_root, remove_at_root};
 use std::alloc::Allocator;
 use std::marker::Model;
+use std::ops::Bound;
 use tf_records::Refusal;
 
 /// A map from keys to values in the order of the keys, as a B-tree of boxed nodes on an allocator.
 ///
 /// A contract sees a tree as the list of its rows, a key with its value, in key order. A look-up, an insert and a
 /// removal take a number of steps that grows with the logarithm of the rows.
+///
+/// Every node is at least half full, but for those on the right edge: the root, its last child, the last child of that
+/// one, and so on. There a split leaves the first part full, since the newest keys are often the greatest.
 #[derive(Drop)]
 pub struct Tree<K: Copy + Ord, V: Copy, A: Allocator> {
     root: Option<Box<Node<K, V, A>, A>>,
@@ -137,6 +142,16 @@ impl<K: Copy + Ord, V: Copy, A: Allocator> Tree<K, V, A> {
         }
     }
 
+    /// The rows whose keys aren't above `key`, from the greatest key down.
+    pub fn seek_back(&self, key: &K) -> BackCursor<'_, K, V, A>
+        ensures { result ≡ reverse (rows_upto K.cmp key.now self.now) }
+    {
+        match &self.root {
+            None => BackCursor::from_end(None, Bound::Included(*key)),
+            Some(root) => BackCursor::from_end(Some(&**root), Bound::Included(*key)),
+        }
+    }
+
     /// Every row, in key order.
     pub fn rows(&self) -> Cursor<'_, K, V, A>
         ensures { result ≡ self.now }
@@ -147,9 +162,20 @@ impl<K: Copy + Ord, V: Copy, A: Allocator> Tree<K, V, A> {
         }
     }
 
+    /// Every row, from the greatest key down.
+    pub fn rows_back(&self) -> BackCursor<'_, K, V, A>
+        ensures { result ≡ reverse self.now }
+    {
+        match &self.root {
+            None => BackCursor::from_end(None, Bound::Unbounded),
+            Some(root) => BackCursor::from_end(Some(&**root), Bound::Unbounded),
+        }
+    }
+
     /// A copy of every row on `alloc`, in key order, or `Refusal::NoMemory`.
     pub fn copy_rows<B: Allocator>(&self, alloc: B) -> Result<Vec<(K, V), B>, Refusal>
-        ensures { IfOk result (λ copy. copy.items ≡ self.now) }
+        ensures ok { IfOk result (λ copy. copy.items ≡ self.now) }
+        ensures err { IfErr result (λ refusal. refusal ≡ Refusal.NoMemory) }
     {
         let Ok(mut copy) = Vec::with_capacity(alloc, self.len) else {
             return Err(Refusal::NoMemory);

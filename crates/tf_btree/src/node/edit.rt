@@ -1,6 +1,6 @@
 //! Edits of one node, seen as the list of its entries.
 ghost use Rattle.std.specs.Prelude.{◌≡◌, ◌+◌, ◌-◌, ◌<◌, ◌≤◌, ◌==◌, [], ◌∷◌, ◌++◌, true, false, suc, length, insert, remove, take, drop, slice_index_or};
-ghost use Rattle.tf_btree.specs.Subtree.{Subtree, rows};
+ghost use Rattle.tf_btree.specs.Subtree.{Subtree, rows, fill_of};
 ghost use Rattle.tf_btree.specs.Node.{first_key};
 
 use super::Node;
@@ -26,7 +26,7 @@ impl<K: Copy, V: Copy, A: Allocator> Node<K, V, A> {
         requires room { length self.old.parts < 32 }
         requires some { 0 < length child.value.parts }
         requires level { 0 < length self.old.parts → self.old.height ≡ suc child.value.height }
-        ensures { self.new ≡ record { is_branch = true; height = suc child.value.height; parts = insert self.old.parts at (rows child.value) } }
+        ensures { self.new ≡ record { is_branch = true; height = suc child.value.height; parts = insert self.old.parts at (rows child.value); fills = insert self.old.fills at (fill_of child.value) } }
     {
         let first = child.first();
         put(&mut self.keys, at, first);
@@ -40,6 +40,8 @@ impl<K: Copy, V: Copy, A: Allocator> Node<K, V, A> {
         ensures entry { slice_index_or self.now.parts at [] ≡ rows result.now }
         ensures some { 0 < length result.now.parts }
         ensures level { self.now.height ≡ suc result.now.height }
+        ensures fill { slice_index_or self.now.fills at (fill_of result.now) ≡ fill_of result.now }
+        ensures fills { length self.now.fills ≡ length self.now.parts }
     {
         &self.children[at]
     }
@@ -66,6 +68,9 @@ impl<K: Copy, V: Copy, A: Allocator> Node<K, V, A> {
         ensures branch { self.new.is_branch ≡ true }
         ensures rest { self.new.parts ≡ remove self.old.parts at }
         ensures same_level { 0 < length self.new.parts → self.new.height ≡ self.old.height }
+        ensures fill { slice_index_or self.old.fills at (fill_of result.value) ≡ fill_of result.value }
+        ensures fills { length self.old.fills ≡ length self.old.parts }
+        ensures rest_fills { self.new.fills ≡ remove self.old.fills at }
     {
         let _ = self.keys.remove(at);
         self.children.remove(at)
@@ -84,6 +89,10 @@ impl<K: Copy, V: Copy, A: Allocator> Node<K, V, A> {
         ensures right_level { at < length self.old.parts → right.new.height ≡ self.old.height }
         ensures leaf_level { self.old.is_branch ≡ false → self.old.height ≡ 0 }
         ensures right_leaf_level { self.old.is_branch ≡ false → right.new.height ≡ 0 }
+        ensures left_fills { self.new.fills ≡ take at self.old.fills }
+        ensures right_fills { right.new.fills ≡ drop at self.old.fills }
+        ensures leaf_fills { self.old.is_branch ≡ false → self.old.fills ≡ [] }
+        ensures branch_fills { self.old.is_branch ≡ true → length self.old.fills ≡ length self.old.parts }
     {
         copy_tail(&mut self.keys, at, &mut right.keys);
         if self.is_branch {
@@ -100,7 +109,7 @@ impl<K: Copy, V: Copy, A: Allocator> Node<K, V, A> {
         requires level { self.old.height ≡ right.old.height }
         requires some { 0 < length self.old.parts }
         requires right_some { 0 < length right.old.parts }
-        ensures all { self.new ≡ record self.old { parts = self.old.parts ++ right.old.parts } }
+        ensures all { self.new ≡ record self.old { parts = self.old.parts ++ right.old.parts; fills = self.old.fills ++ right.old.fills } }
     {
         move_all(&mut right.keys, &mut self.keys);
         if self.is_branch {

@@ -1,9 +1,10 @@
 //! Inserts into a node.
-ghost use Rattle.std.specs.Prelude.{◌≡◌, ◌+◌, ◌<◌, ◌≤◌, [], ◌∷◌, ◌++◌, length, insert, suc, slice_index_or, slice_set, true, false, IsSome, IfSome, None, IfOk, OnErr, is_ok, if◌then◌else◌};
-ghost use Rattle.tf_btree.specs.Subtree.{Subtree, joined, rows};
+ghost use Rattle.std.specs.Prelude.{◌≡◌, ◌+◌, ◌<◌, ◌≤◌, [], ◌∷◌, ◌++◌, length, insert, take, drop, suc, slice_index_or, slice_set, true, false, IsSome, IfSome, None, IfOk, OnErr, is_ok, if◌then◌else◌};
+ghost use Rattle.tf_btree.specs.Shape.{AllFilled, Fill, IsFilled};
+ghost use Rattle.tf_btree.specs.Subtree.{Subtree, joined, rows, fill_of};
 ghost use Rattle.tf_btree.specs.Rows.{IsRising, value_at, with_row};
 ghost use Rattle.tf_btree.specs.Place.{IsGap};
-ghost use Rattle.tf_btree.specs.Inserted.{KeepsLevel, IsBeside, IsSplitOf, rows_behind};
+ghost use Rattle.tf_btree.specs.Inserted.{KeepsLevel, IsBeside, IsSplitOf, IsFilledWith, rows_behind, fills_behind};
 
 use super::{CAPACITY, Node};
 use std::alloc::{AllocError, Allocator};
@@ -28,7 +29,7 @@ impl<K: Copy, V: Copy, A: Allocator> Node<K, V, A> {
     }
 
     /// Puts another row over the entry of a leaf at `at`, and gives the value that was there.
-    fn replace_row(&mut self, at: usize, key: K, value: V) -> V
+    pub(super) fn replace_row(&mut self, at: usize, key: K, value: V) -> V
         requires leaf { self.old.is_branch ≡ false }
         requires in_range { at < length self.old.parts }
         ensures old { (k : K) (w : V) → slice_index_or self.old.parts at [] ≡ (k, w) ∷ [] → result ≡ w }
@@ -54,7 +55,9 @@ impl<K: Copy, V: Copy, A: Allocator> Node<K, V, A> {
         requires in_bounds { at ≤ 32 }
         requires right_leaf { right.value.is_branch ≡ false }
         requires empty { right.value.parts ≡ [] }
-        ensures { IsSplitOf self.old self.new result.value (joined (insert self.old.parts at ((key, value) ∷ []))) }
+        ensures split { IsSplitOf self.old self.new result.value (joined (insert self.old.parts at ((key, value) ∷ []))) }
+        ensures filled { IsFilled false (fill_of self.new) }
+        ensures right_filled { IsFilled at_edge (fill_of result.value) }
     {
         let middle = if at_edge && at == CAPACITY {
             CAPACITY
@@ -87,7 +90,9 @@ impl<K: Copy, V: Copy, A: Allocator> Node<K, V, A> {
         requires level { self.old.height ≡ suc child.value.height }
         requires right_branch { right.value.is_branch ≡ true }
         requires empty { right.value.parts ≡ [] }
-        ensures { IsSplitOf self.old self.new result.value (joined (insert self.old.parts at (rows child.value))) }
+        ensures split { IsSplitOf self.old self.new result.value (joined (insert self.old.parts at (rows child.value))) }
+        ensures filled { AllFilled at_edge (insert self.old.fills at (fill_of child.value)) → IsFilled false (fill_of self.new) }
+        ensures right_filled { AllFilled at_edge (insert self.old.fills at (fill_of child.value)) → IsFilled at_edge (fill_of result.value) }
     {
         let middle = if at_edge && at == CAPACITY {
             CAPACITY
@@ -121,7 +126,9 @@ impl<K: Copy, V: Copy, A: Allocator> Node<K, V, A> {
         requires spare_empty { IfSome spare (λ b. b.value.parts ≡ []) }
         ensures all { rows self.new ++ rows_behind result ≡ joined (insert self.old.parts at (rows child.value)) }
         ensures behind { IfSome result (λ b. IsBeside self.old b.value) }
+        ensures full { IsSome result → 32 ≤ length self.old.parts }
         ensures level { KeepsLevel self.old self.new }
+        ensures filled { (at_edge ≡ false → 16 ≤ length self.old.parts) → AllFilled at_edge (insert self.old.fills at (fill_of child.value)) → IsFilledWith at_edge self.new result }
     {
         if self.len() < CAPACITY {
             self.insert_child(at, child);
@@ -150,12 +157,33 @@ impl<K: Copy, V: Copy, A: Allocator> Node<K, V, A> {
         ensures all { rows self.new ++ rows_behind result ≡ joined (insert self.old.parts (at + 1) (rows_behind split)) }
         ensures behind { IfSome result (λ b. IsBeside self.old b.value) }
         ensures only_split { IsSome result → IsSome split }
+        ensures full { IsSome result → 32 ≤ length self.old.parts }
         ensures level { KeepsLevel self.old self.new }
+        ensures filled { (at_edge ≡ false → 16 ≤ length self.old.parts) → AllFilled at_edge (take (at + 1) self.old.fills ++ (fills_behind split ++ drop (at + 1) self.old.fills)) → IsFilledWith at_edge self.new result }
     {
         match split {
             None => None,
             Some(right) => self.adopt(at + 1, right, spare, at_edge),
         }
+    }
+
+    /// Whether the child of a branch at `at` may be split where it is full, and the spare node that a split of this one
+    /// needs where both are full. Only then it takes memory.
+    fn room_for_split(&self, at: usize, may_split: bool) -> (bool, Option<Box<Node<K, V, A>, A>>)
+    where
+        A: Clone,
+        requires branch { self.now.is_branch ≡ true }
+        requires in_range { at < length self.now.parts }
+        ensures may { result.0 ≡ true → may_split ≡ true }
+        ensures room { (child : Fill) → result.0 ≡ true → 32 ≤ (slice_index_or self.now.fills at child).entries → length self.now.parts ≡ 32 → IsSome result.1 }
+        ensures spare_branch { IfSome result.1 (λ b. b.value.is_branch ≡ true) }
+        ensures spare_empty { IfSome result.1 (λ b. b.value.parts ≡ []) }
+    {
+        if !may_split || self.len() < CAPACITY || self.child(at).len() < CAPACITY {
+            return (may_split, None);
+        }
+        let spare = self.spare();
+        (spare.is_some(), spare)
     }
 
     /// Puts a row into a leaf as the entry at `at`, where its key isn't there. A full leaf is split where `may_split`
@@ -178,7 +206,9 @@ impl<K: Copy, V: Copy, A: Allocator> Node<K, V, A> {
         ensures value { IfOk result.0 (λ old. old ≡ None) }
         ensures behind { IfSome result.1 (λ b. IsBeside self.old b.value) }
         ensures may { IsSome result.1 → may_split ≡ true }
+        ensures full { IsSome result.1 → 32 ≤ length self.old.parts }
         ensures level { KeepsLevel self.old self.new }
+        ensures filled { IsFilled at_edge (fill_of self.old) → IsFilledWith at_edge self.new result.1 }
     {
         if self.len() < CAPACITY {
             self.insert_row(at, key, value);
@@ -215,7 +245,9 @@ impl<K: Copy, V: Copy, A: Allocator> Node<K, V, A> {
         ensures absent { OnErr result.0 (value_at K.cmp key (rows self.old) ≡ None) }
         ensures behind { IfSome result.1 (λ b. IsBeside self.old b.value) }
         ensures may { IsSome result.1 → may_split ≡ true }
+        ensures full { IsSome result.1 → 32 ≤ length self.old.parts }
         ensures level { KeepsLevel self.old self.new }
+        ensures filled { IsFilled at_edge (fill_of self.old) → IsFilledWith at_edge self.new result.1 }
     {
         match self.find_row(&key) {
             Ok(at) => (Ok(Some(self.replace_row(at, key, value))), None),
@@ -245,27 +277,18 @@ impl<K: Copy, V: Copy, A: Allocator> Node<K, V, A> {
         ensures absent { OnErr result.0 (value_at K.cmp key (rows self.old) ≡ None) }
         ensures behind { IfSome result.1 (λ b. IsBeside self.old b.value) }
         ensures may { IsSome result.1 → may_split ≡ true }
+        ensures full { IsSome result.1 → 32 ≤ length self.old.parts }
         ensures level { KeepsLevel self.old self.new }
+        ensures filled { IsFilled at_edge (fill_of self.old) → IsFilledWith at_edge self.new result.1 }
     {
         if !self.is_branch() {
             return self.insert_into_leaf(key, value, at_edge, may_split);
         }
         let at = self.find_child(&key);
         let len = self.len();
-        let has_room = len < CAPACITY;
-        let spare = if may_split && !has_room {
-            self.spare()
-        } else {
-            None
-        };
-        let may_split_child = has_room || spare.is_some();
+        let (may_split_child, spare) = self.room_for_split(at, may_split);
         let child: &mut Node<K, V, A> = &mut self.children[at];
-        let (done, split) = child.insert(
-            key,
-            value,
-            at_edge && at + 1 == len,
-            may_split && may_split_child,
-        );
+        let (done, split) = child.insert(key, value, at_edge && at + 1 == len, may_split_child);
         self.keys[at] = child.first();
         (done, self.settle(at, split, spare, at_edge))
     }

@@ -1,6 +1,7 @@
 //! Removals from a node.
-ghost use Rattle.std.specs.Prelude.{◌≡◌, ◌+◌, ◌<◌, ◌≤◌, [], ◌++◌, length, suc, true, false};
-ghost use Rattle.tf_btree.specs.Subtree.{Subtree, rows};
+ghost use Rattle.std.specs.Prelude.{◌≡◌, ◌+◌, ◌<◌, ◌≤◌, [], ◌++◌, length, suc, Bool, true, false};
+ghost use Rattle.tf_btree.specs.Shape.{AllFilled, IsFilled, one_more, one_more_at};
+ghost use Rattle.tf_btree.specs.Subtree.{Subtree, rows, fill_of};
 ghost use Rattle.tf_btree.specs.Rows.{IsRising, value_at, without_row};
 ghost use Rattle.tf_btree.specs.Inserted.{KeepsLevel};
 
@@ -18,6 +19,9 @@ impl<K: Copy, V: Copy, A: Allocator> Node<K, V, A> {
         ensures all { rows self.new ++ rows second.new ≡ rows self.old ++ rows second.old }
         ensures level { KeepsLevel self.old self.new }
         ensures second_level { KeepsLevel second.old second.new }
+        ensures more { length self.new.parts ≡ length self.old.parts + 1 }
+        ensures second_fewer { length second.new.parts + 1 ≡ length second.old.parts }
+        ensures filled { (edge : Bool) → AllFilled false self.old.fills → AllFilled edge second.old.fills → AllFilled false self.new.fills × AllFilled edge second.new.fills }
     {
         let end = self.len();
         if self.is_branch() {
@@ -39,6 +43,9 @@ impl<K: Copy, V: Copy, A: Allocator> Node<K, V, A> {
         ensures all { rows self.new ++ rows second.new ≡ rows self.old ++ rows second.old }
         ensures level { KeepsLevel self.old self.new }
         ensures second_level { KeepsLevel second.old second.new }
+        ensures fewer { length self.new.parts + 1 ≡ length self.old.parts }
+        ensures second_more { length second.new.parts ≡ length second.old.parts + 1 }
+        ensures filled { (edge : Bool) → AllFilled false self.old.fills → AllFilled edge second.old.fills → AllFilled false self.new.fills × AllFilled edge second.new.fills }
     {
         let last = self.len() - 1;
         if self.is_branch() {
@@ -56,7 +63,9 @@ impl<K: Copy, V: Copy, A: Allocator> Node<K, V, A> {
         ensures all { rows self.new ≡ rows self.old }
         ensures kind { self.new.is_branch ≡ true }
         ensures entries { 0 < length self.new.parts → 0 < length self.old.parts }
+        ensures fewer { length self.old.parts ≤ length self.new.parts + 1 }
         ensures level { self.new.height ≡ self.old.height }
+        ensures filled { (edge : Bool) → (edge ≡ false → 1 < length self.old.parts) → AllFilled edge (one_more_at at self.old.fills) → AllFilled edge self.new.fills }
     {
         let len = self.len();
         if at >= len || len < 2 || self.child(at).len() >= CAPACITY / 2 {
@@ -72,7 +81,9 @@ impl<K: Copy, V: Copy, A: Allocator> Node<K, V, A> {
         requires in_range { left + 1 < length self.old.parts }
         requires fits { length self.old.parts ≤ 32 }
         ensures all { rows self.new ≡ rows self.old }
+        ensures fewer { length self.old.parts ≤ length self.new.parts + 1 }
         ensures level { KeepsLevel self.old self.new }
+        ensures filled { (edge : Bool) → AllFilled edge (one_more_at left (one_more_at (left + 1) self.old.fills)) → AllFilled edge self.new.fills }
     {
         let mut second = self.remove_child(left + 1);
         let mut first = self.remove_child(left);
@@ -93,6 +104,8 @@ impl<K: Copy, V: Copy, A: Allocator> Node<K, V, A> {
     }
 
     /// Removes the row of `key` below this node, if there is one, and gives its value. It takes no memory.
+    ///
+    /// It may leave this node one entry short of half full, which the parent mends.
     pub(crate) fn remove(&mut self, key: &K) -> Option<V>
     where
         K: Ord,
@@ -102,6 +115,7 @@ impl<K: Copy, V: Copy, A: Allocator> Node<K, V, A> {
         ensures value { result ≡ value_at K.cmp key.now (rows self.old) }
         ensures kind { self.new.is_branch ≡ self.old.is_branch }
         ensures level { 0 < length self.new.parts → self.new.height ≡ self.old.height }
+        ensures filled { (edge : Bool) → IsFilled edge (fill_of self.old) → IsFilled edge (one_more (fill_of self.new)) }
     {
         if !self.is_branch() {
             return match self.find_row(key) {

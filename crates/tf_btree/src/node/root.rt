@@ -1,10 +1,11 @@
 //! Edits of a whole tree at its root.
-ghost use Rattle.std.specs.Prelude.{◌≡◌, ◌<◌, [], ◌∷◌, ◌++◌, length, None, true, IfSome, IfOk, OnErr, is_ok, if◌then◌else◌};
-ghost use Rattle.tf_btree.specs.Subtree.{Subtree, rows};
+ghost use Rattle.std.specs.Prelude.{◌≡◌, ◌<◌, [], ◌∷◌, ◌++◌, length, None, true, false, IfSome, IfOk, OnErr, is_ok, if◌then◌else◌};
+ghost use Rattle.tf_btree.specs.Shape.{IsFilled};
+ghost use Rattle.tf_btree.specs.Subtree.{Subtree, rows, fill_of};
 ghost use Rattle.tf_btree.specs.Rows.{IsRising, value_at, with_row, without_row};
-ghost use Rattle.tf_btree.specs.Tree.{rows_under, HasEntries};
+ghost use Rattle.tf_btree.specs.Tree.{rows_under, HasEntries, IsFilledUnder};
 
-use super::Node;
+use super::{CAPACITY, Node};
 use std::alloc::{AllocError, Allocator};
 use std::mem;
 
@@ -15,6 +16,7 @@ impl<K: Copy, V: Copy, A: Allocator> Node<K, V, A> {
         A: Clone,
         ensures all { IfSome result (λ b. rows b.value ≡ (key, value) ∷ []) }
         ensures some { IfSome result (λ b. 0 < length b.value.parts) }
+        ensures filled { IfSome result (λ b. IsFilled true (fill_of b.value)) }
     {
         let mut leaf = Node::new_leaf(alloc.clone().ok()?).ok()?;
         leaf.insert_row(0, key, value);
@@ -27,6 +29,7 @@ impl<K: Copy, V: Copy, A: Allocator> Node<K, V, A> {
         A: Clone,
         ensures branch { IfSome result (λ b. b.value.is_branch ≡ true) }
         ensures empty { IfSome result (λ b. b.value.parts ≡ []) }
+        ensures bare { IfSome result (λ b. b.value.fills ≡ []) }
     {
         let alloc = self.keys.allocator().clone().ok()?;
         let own = self.keys.allocator().clone().ok()?;
@@ -42,11 +45,15 @@ fn raise<K: Copy, V: Copy, A: Allocator>(
 )
     requires branch { top.value.is_branch ≡ true }
     requires empty { top.value.parts ≡ [] }
+    requires bare { top.value.fills ≡ [] }
     requires some { 0 < length root.old.value.parts }
     requires right_some { 0 < length right.value.parts }
     requires level { right.value.height ≡ root.old.value.height }
+    requires filled { IsFilled false (fill_of root.old.value) }
+    requires right_filled { IsFilled true (fill_of right.value) }
     ensures all { rows root.new.value ≡ rows root.old.value ++ rows right.value }
     ensures some { 0 < length root.new.value.parts }
+    ensures filled { IsFilled true (fill_of root.new.value) }
 {
     mem::swap(root, &mut top);
     root.insert_child(0, top);
@@ -61,10 +68,12 @@ fn insert_without_split<K: Copy + Ord, V: Copy, A: Allocator + Clone>(
 ) -> Result<Option<V>, AllocError>
     requires rising { IsRising K.cmp (rows root.old.value) }
     requires some { 0 < length root.old.value.parts }
+    requires filled { IsFilled true (fill_of root.old.value) }
     ensures all { rows root.new.value ≡ (if is_ok result then with_row K.cmp key value (rows root.old.value) else rows root.old.value) }
     ensures value { IfOk result (λ old. old ≡ value_at K.cmp key (rows root.old.value)) }
     ensures absent { OnErr result (value_at K.cmp key (rows root.old.value) ≡ None) }
     ensures some { 0 < length root.new.value.parts }
+    ensures filled { IsFilled true (fill_of root.new.value) }
 {
     let (done, split) = root.insert(key, value, true, false);
     match split {
@@ -81,13 +90,16 @@ fn insert_with_split<K: Copy + Ord, V: Copy, A: Allocator + Clone>(
 ) -> Result<Option<V>, AllocError>
     requires rising { IsRising K.cmp (rows root.old.value) }
     requires some { 0 < length root.old.value.parts }
+    requires filled { IsFilled true (fill_of root.old.value) }
     ensures all { rows root.new.value ≡ (if is_ok result then with_row K.cmp key value (rows root.old.value) else rows root.old.value) }
     ensures value { IfOk result (λ old. old ≡ value_at K.cmp key (rows root.old.value)) }
     ensures absent { OnErr result (value_at K.cmp key (rows root.old.value) ≡ None) }
     ensures some { 0 < length root.new.value.parts }
+    ensures filled { IsFilled true (fill_of root.new.value) }
 {
-    let top = root.spare_branch();
-    let may_split = top.is_some();
+    let is_full = root.len() == CAPACITY;
+    let top = if is_full { root.spare_branch() } else { None };
+    let may_split = !is_full || top.is_some();
     let (done, split) = root.insert(key, value, true, may_split);
     match split {
         None => done,
@@ -108,11 +120,16 @@ pub(crate) fn insert_at_root<K: Copy + Ord, V: Copy, A: Allocator + Clone>(
 ) -> Result<Option<V>, AllocError>
     requires rising { IsRising K.cmp (rows root.old.value) }
     requires some { 0 < length root.old.value.parts }
+    requires filled { IsFilled true (fill_of root.old.value) }
     ensures all { rows root.new.value ≡ (if is_ok result then with_row K.cmp key value (rows root.old.value) else rows root.old.value) }
     ensures value { IfOk result (λ old. old ≡ value_at K.cmp key (rows root.old.value)) }
     ensures absent { OnErr result (value_at K.cmp key (rows root.old.value) ≡ None) }
     ensures some { 0 < length root.new.value.parts }
+    ensures filled { IsFilled true (fill_of root.new.value) }
 {
+    if let Some(old) = root.insert_in_place(&key, &value) {
+        return Ok(old);
+    }
     match insert_without_split(root, key, value) {
         Ok(old) => Ok(old),
         Err(_) => insert_with_split(root, key, value),
@@ -121,9 +138,11 @@ pub(crate) fn insert_at_root<K: Copy + Ord, V: Copy, A: Allocator + Clone>(
 
 /// Takes away a root with one child, so that the child is the root.
 fn lower<K: Copy, V: Copy, A: Allocator>(root: &mut Box<Node<K, V, A>, A>)
-    requires { 0 < length root.old.value.parts }
+    requires some { 0 < length root.old.value.parts }
+    requires filled { IsFilled true (fill_of root.old.value) }
     ensures all { rows root.new.value ≡ rows root.old.value }
     ensures some { 0 < length root.new.value.parts }
+    ensures filled { IsFilled true (fill_of root.new.value) }
 {
     if root.is_branch() && root.len() == 1 {
         let child = root.remove_child(0);
@@ -138,9 +157,11 @@ pub(crate) fn remove_at_root<K: Copy + Ord, V: Copy, A: Allocator>(
 ) -> Option<V>
     requires rising { IsRising K.cmp (rows_under root.old) }
     requires some { HasEntries root.old }
+    requires filled { IsFilledUnder root.old }
     ensures all { rows_under root.new ≡ without_row K.cmp key.now (rows_under root.old) }
     ensures value { result ≡ value_at K.cmp key.now (rows_under root.old) }
     ensures some { HasEntries root.new }
+    ensures filled { IsFilledUnder root.new }
 {
     let Some(top) = root else {
         return None;

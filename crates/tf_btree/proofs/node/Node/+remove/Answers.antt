@@ -1,14 +1,16 @@
-use Rattle.std.proofs.Common.{rules, ◌≡◌, suc, true, Some, length, sym, ◌∙◌, ap, subst, arith}
-use Rattle.std.proofs.lemmas.List.{nil_from_length}
+use Rattle.std.proofs.Common.{rules, ◌≡◌, suc, ◌<◌, ◌≤◌, remove, true, false, Some, length, refl, sym, ◌∙◌, ap, subst, arith}
+use Rattle.std.proofs.lemmas.List.{nil_from_length, length-set}
 use Rattle.std.proofs.lemmas.List.Edits.{length-remove}
 use Rattle.std.specs.Box.{with_value}
-use Rattle.tf_btree.specs.Subtree.{joined, rows}
+use Rattle.tf_btree.specs.Shape.{AllFilled, one_more_at}
+use Rattle.tf_btree.specs.Subtree.{joined, rows, fill_of}
 use Rattle.tf_btree.specs.Rows.{IsRising, value_at, without_row}
-use Rattle.tf_btree.proofs.Entries.{same_kind, same_parts, length-seen, room_after}
+use Rattle.tf_btree.proofs.Entries.{same_kind, same_parts, same_fills, length-seen, room_after}
 use Rattle.tf_btree.proofs.Placed.{value_below, rising_entry, value_gap, value_found}
 use Rattle.tf_btree.proofs.Parts.{joined-set, joined-remove}
 use Rattle.tf_btree.proofs.Edited.{without_row_at, without_row_gap, without_row_child, entry_value}
-use Rattle.tf_btree.proofs.Children.{child_at, child_put, child_gone, room_set}
+use Rattle.tf_btree.proofs.Filled.{edge_at, IsFilled-more, filled_more, filled_fewer, filled_fewer_than, filled_short, filled_without, empty_edge}
+use Rattle.tf_btree.proofs.Children.{child_at, child_put, child_gone, child_filled, room_set}
 use Rattle.tf_btree.proofs.node.Node.+remove.Goals as goal
 use Rattle.tf_btree.proofs.node.Node.+remove.Goals.{then-len-eq0, else-len-eq0}
 
@@ -110,3 +112,43 @@ returns-clause-level g t c = λ some.
           rw w.self-is put.height
     ] in
     c.mend.ensures.level ∙ here
+
+pub returns-in-Ok-clause-filled : goal.returns-in-Ok-clause-filled
+returns-in-Ok-clause-filled g t c = λ edge old.
+    let at = c.in-Ok.ensures.found.in_range in
+    let shorter = length-remove c.args.self.now.parts c.in-Ok.at at in
+    let parts = ap length (same_parts c.remove_row.ensures.rest) in
+    filled_fewer edge c.args.self.now c.remove_row.new.self (same_fills c.remove_row.ensures.rest) (omega arith) old
+
+pub returns-in-Err-clause-filled : goal.returns-in-Err-clause-filled
+returns-in-Err-clause-filled g t c = λ edge old. IsFilled-more edge (fill_of c.args.self.now) old
+
+pub returns-clause-filled : goal.returns-clause-filled
+returns-clause-filled g t c = λ edge old.
+    let branch : c.self.inside.is_branch ≡ true = same_kind c.self.view_is ∙ sym c.is_branch.ensures ∙ c.if-not-is_branch.false in
+    let child = child_at _ _ _ _ _ _ _ _ branch c.self.invariant.0 c.self.view_is c.find_child-at.ensures.in_range c.index_mut.ensures.value c.deref_mut-child.ensures.value in
+    let done = c.remove-removed.ensures.filled (edge_at edge c.args.self.now.fills c.find_child-at.result) (child_filled edge _ c.args.self.now c.find_child-at.result c.deref_mut-child.result.now child refl old.below) in
+    let here : AllFilled edge (one_more_at c.find_child-at.result c.if-len-eq0.self.fills) × (edge ≡ false → 1 < length c.if-len-eq0.self.parts) × (edge ≡ false → 16 ≤ length c.if-len-eq0.self.parts) =
+    elim c.if-len-eq0.branch [
+      | then-len-eq0 w ↦
+          let gone = child_gone _ _ _ _ _ _ _ _ (with_value c.index_mut.result.now c.remove-removed.new.self) branch c.self.invariant.0 c.self.view_is w.remove.ensures.items w.remove-then-len-eq0.ensures.items in
+          let empty = sym c.len.ensures.value ∙ w.if-len-eq0.true in
+          let off = empty_edge edge c.args.self.now.fills c.find_child-at.result (fill_of c.remove-removed.new.self) done empty in
+          rw (w.self-is, gone.fills) (
+            filled_more edge c.find_child-at.result (remove c.args.self.now.fills c.find_child-at.result) (filled_without edge c.args.self.now.fills c.find_child-at.result (fill_of c.remove-removed.new.self) child.within old.below done empty),
+            λ e. absurd (off e),
+            λ e. absurd (off e),
+          )
+      | else-len-eq0 w ↦
+          let some = w.if-len-eq0.false in
+          let long = c.len.ensures.value in
+          let level = child.level ∙ ap suc (sym (c.remove-removed.ensures.level (omega arith))) in
+          let put = child_put _ _ _ _ _ _ _ (with_value c.index_mut.result.now c.remove-removed.new.self) branch c.self.invariant.0 c.self.view_is c.find_child-at.ensures.in_range w.first-first.ensures level in
+          let same = length-set c.args.self.now.parts c.find_child-at.result (rows c.remove-removed.new.self) in
+          rw (w.self-is, put.fills, put.parts) (
+            filled_short edge c.args.self.now.fills c.find_child-at.result (fill_of c.remove-removed.new.self) child.within old.below done,
+            λ e. let n = old.half e in omega arith,
+            λ e. let n = old.half e in omega arith,
+          )
+    ] in
+    filled_fewer_than edge c.mend.new.self (c.mend.ensures.filled edge here.1 here.0) (λ e. let n = here.2 e in omega (arith, c.mend.ensures.fewer))

@@ -30,4 +30,4 @@ invariant_of-self-else-self g c =
 pub returns-else-self : goal.returns-else-self
 returns-else-self g c =
     let leaf = same_kind c.right.view_is ∙ c.requires.kind ∙ sym (same_kind c.self.view_is) ∙ c.if-self.false in
-    record { all = rw (c.move_all.ensures.all, c.move_all-else-self.ensures.all, ← c.self.view_is, ← c.right.view_is) (leaf_append_view _ _ _ _ _ _ _ _ c.if-self.false c.self.invariant.0 leaf) }
+    record { all = rw (c.move_all.ensures.all, c.move_all-else-self.ensures.all, ← c.self.view_is, ← c.right.view_is) (leaf_append_view _ _ _ _ _ _ _ _ c.if-self.false c.self.invariant.0 leaf c.right.invariant.0) }

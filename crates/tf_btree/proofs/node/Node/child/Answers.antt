@@ -1,5 +1,5 @@
 use Rattle.std.proofs.Common.{[], sym, ◌∙◌, arith}
-use Rattle.tf_btree.proofs.Entries.{same_kind, same_height, length-seen, child_entry, child_height, child_some}
+use Rattle.tf_btree.proofs.Entries.{same_kind, same_height, length-seen, length-fills, child_entry, child_fill, child_height, child_some}
 use Rattle.tf_btree.proofs.node.Node.child.Goals as goal
 
 pub returns : goal.returns
@@ -11,4 +11,6 @@ returns g c =
       entry = rw (← c.self.view_is) entry;
       some = child_some _ _ _ _ _ _ branch c.self.invariant.0 (omega arith) c.index.ensures;
       level = sym (same_height c.self.view_is) ∙ child_height _ _ _ _ _ _ branch c.self.invariant.0 (omega arith) c.index.ensures;
+      fill = rw (← c.self.view_is) (child_fill _ _ _ _ _ _ branch c.self.invariant.0 (omega arith) c.index.ensures _);
+      fills = length-fills _ _ _ _ _ c.self.invariant.0 c.self.view_is c.requires.branch;
     }

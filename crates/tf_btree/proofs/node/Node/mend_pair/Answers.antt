@@ -1,7 +1,9 @@
-use Rattle.std.proofs.Common.{◌≡◌, ◌+◌, ◌++◌, remove, refl, ◌∙◌, ap, arith}
+use Rattle.std.proofs.Common.{◌≡◌, ◌+◌, ◌<◌, ◌++◌, length, insert, remove, false, refl, ◌∙◌, ap, arith}
 use Rattle.std.proofs.lemmas.List.Edits.{length-insert, length-remove}
-use Rattle.tf_btree.specs.Subtree.{joined, rows}
-use Rattle.tf_btree.proofs.Entries.{same_parts}
+use Rattle.tf_btree.specs.Shape.{IsFilled}
+use Rattle.tf_btree.specs.Subtree.{joined, rows, fill_of}
+use Rattle.tf_btree.proofs.Entries.{same_parts, same_fills}
+use Rattle.tf_btree.proofs.Filled.{edge_at, pair_found, pair_as_one, pair_as_two, joined_filled}
 use Rattle.tf_btree.proofs.Parts.{joined-append}
 use Rattle.tf_btree.proofs.Edited.{mend_one, mend_two}
 use Rattle.tf_btree.proofs.Children.{neighbours}
@@ -52,3 +54,85 @@ returns-clause-all g c =
       | else-first_len-second_len+else-second_len-first_len w ↦ rw (w.first-is, w.second-is) refl
     ] in
     rw (put-2, put, twice, once) (mend_two c.args.self.now.parts c.args.left _ _ _ _ c.requires.in_range pair.first pair.second same)
+
+pub insert_child-requires-clause-room : goal.insert_child-requires-clause-room
+insert_child-requires-clause-room g c =
+    let once = c.remove_child-second.ensures.rest in
+    let twice = c.remove_child-first.ensures.rest in
+    let shorter = length-remove c.args.self.now.parts (c.args.left + 1) c.requires.in_range in
+    let shorter-2 = length-remove (remove c.args.self.now.parts (c.args.left + 1)) c.args.left (omega arith) in
+    rw (twice, once) (omega (arith, c.requires.fits))
+
+pub returns-then-first_len-second_len-le-CAPACITY-clause-fewer : goal.returns-then-first_len-second_len-le-CAPACITY-clause-fewer
+returns-then-first_len-second_len-le-CAPACITY-clause-fewer g c =
+    let once = c.remove_child-second.ensures.rest in
+    let twice = c.remove_child-first.ensures.rest in
+    let put = same_parts c.insert_child.ensures in
+    let shorter = length-remove c.args.self.now.parts (c.args.left + 1) c.requires.in_range in
+    let shorter-2 = length-remove (remove c.args.self.now.parts (c.args.left + 1)) c.args.left (omega arith) in
+    let longer = length-insert (remove (remove c.args.self.now.parts (c.args.left + 1)) c.args.left) c.args.left (rows c.append.new.self) (omega arith) in
+    rw (put, twice, once) (omega arith)
+
+pub returns-clause-fewer : goal.returns-clause-fewer
+returns-clause-fewer g c =
+    let once = c.remove_child-second.ensures.rest in
+    let twice = c.remove_child-first.ensures.rest in
+    let put = same_parts c.insert_child-2.ensures in
+    let put-2 = same_parts c.insert_child-3.ensures in
+    let shorter = length-remove c.args.self.now.parts (c.args.left + 1) c.requires.in_range in
+    let shorter-2 = length-remove (remove c.args.self.now.parts (c.args.left + 1)) c.args.left (omega arith) in
+    let longer = length-insert (remove (remove c.args.self.now.parts (c.args.left + 1)) c.args.left) c.args.left (rows c.if-first_len-second_len.second.value) (omega arith) in
+    let longer-2 = length-insert (insert (remove (remove c.args.self.now.parts (c.args.left + 1)) c.args.left) c.args.left (rows c.if-first_len-second_len.second.value)) c.args.left (rows c.if-first_len-second_len.first.value) (omega arith) in
+    rw (put-2, put, twice, once) (omega arith)
+
+pub returns-then-first_len-second_len-le-CAPACITY-clause-filled : goal.returns-then-first_len-second_len-le-CAPACITY-clause-filled
+returns-then-first_len-second_len-le-CAPACITY-clause-filled g c = λ edge h.
+    let once = c.remove_child-second.ensures.rest_fills in
+    let twice = c.remove_child-first.ensures.rest_fills in
+    let put = same_fills c.insert_child.ensures in
+    let fill = rw once at c.remove_child-first.ensures.fill in
+    let within : c.args.left + 1 < length c.args.self.now.fills = omega (arith, c.remove_child-second.ensures.fills) in
+    let pair = pair_found edge c.args.self.now.fills c.args.left (fill_of c.remove_child-first.result.value) (fill_of c.remove_child-second.result.value) within c.remove_child-second.ensures.fill fill h in
+    let parts : c.append.new.self.parts ≡ c.remove_child-first.result.value.parts ++ c.remove_child-second.result.value.parts =
+    same_parts c.append.ensures.all ∙ rw (c.deref_mut.ensures.value, c.deref_mut-then-first_len-second_len-le-CAPACITY.ensures.value) refl in
+    let fills : c.append.new.self.fills ≡ c.remove_child-first.result.value.fills ++ c.remove_child-second.result.value.fills =
+    same_fills c.append.ensures.all ∙ rw (c.deref_mut.ensures.value, c.deref_mut-then-first_len-second_len-le-CAPACITY.ensures.value) refl in
+    let both = joined_filled _ c.remove_child-first.result.value c.remove_child-second.result.value c.append.new.self parts fills c.remove_child-second.ensures.some pair.0 pair.1 in
+    rw (put, twice, once) (pair_as_one edge c.args.self.now.fills c.args.left (fill_of c.append.new.self) within h both)
+
+pub returns-clause-filled : goal.returns-clause-filled
+returns-clause-filled g c = λ edge h.
+    let once = c.remove_child-second.ensures.rest_fills in
+    let twice = c.remove_child-first.ensures.rest_fills in
+    let put = same_fills c.insert_child-2.ensures in
+    let put-2 = same_fills c.insert_child-3.ensures in
+    let fill = rw once at c.remove_child-first.ensures.fill in
+    let within : c.args.left + 1 < length c.args.self.now.fills = omega (arith, c.remove_child-second.ensures.fills) in
+    let pair = pair_found edge c.args.self.now.fills c.args.left (fill_of c.remove_child-first.result.value) (fill_of c.remove_child-second.result.value) within c.remove_child-second.ensures.fill fill h in
+    let last = edge_at edge c.args.self.now.fills (c.args.left + 1) in
+    let n = pair.0.half refl in
+    let len = rw c.deref.ensures at c.len-first_len.ensures.value in
+    let second_len = rw c.deref-2.ensures at c.len-second_len.ensures.value in
+    let many = c.if-first_len-second_len-le-CAPACITY.false in
+    let moved : IsFilled false (fill_of c.if-first_len-second_len.first.value) × IsFilled last (fill_of c.if-first_len-second_len.second.value) =
+    elim c.if-first_len-second_len.branch [
+      | then-first_len-second_len w ↦
+          let more = rw w.deref_mut-then-first_len-second_len.ensures.value at w.take_first.ensures.more in
+          let fewer = rw w.deref_mut-then-first_len-second_len-2.ensures.value at w.take_first.ensures.second_fewer in
+          let full = rw (w.deref_mut-then-first_len-second_len.ensures.value, w.deref_mut-then-first_len-second_len-2.ensures.value) at w.take_first.ensures.filled in
+          let all = full last pair.0.below pair.1.below in
+          let less = w.if-first_len-second_len.true in
+          rw (w.first-is, w.second-is) (record { half = λ off. omega arith; below = all.0 }, record { half = λ off. omega arith; below = all.1 })
+      | else-first_len-second_len+then-second_len-first_len w ↦
+          let fewer = rw w.deref_mut-then-second_len-first_len.ensures.value at w.give_last.ensures.fewer in
+          let more = rw w.deref_mut-then-second_len-first_len-2.ensures.value at w.give_last.ensures.second_more in
+          let full = rw (w.deref_mut-then-second_len-first_len.ensures.value, w.deref_mut-then-second_len-first_len-2.ensures.value) at w.give_last.ensures.filled in
+          let all = full last pair.0.below pair.1.below in
+          let less = w.if-second_len-first_len.true in
+          rw (w.first-is, w.second-is) (record { half = λ off. omega arith; below = all.0 }, record { half = λ off. let m = pair.1.half off in omega arith; below = all.1 })
+      | else-first_len-second_len+else-second_len-first_len w ↦
+          let le = w.if-first_len-second_len.false in
+          let ge = w.if-second_len-first_len.false in
+          rw (w.first-is, w.second-is) (record { half = λ off. omega arith; below = pair.0.below }, record { half = λ off. omega arith; below = pair.1.below })
+    ] in
+    rw (put-2, put, twice, once) (pair_as_two edge c.args.self.now.fills c.args.left _ _ within h moved.0 moved.1)

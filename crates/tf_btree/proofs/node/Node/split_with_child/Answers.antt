@@ -1,20 +1,23 @@
-use Rattle.std.proofs.Common.{◌-◌, ◌<◌, ◌≤◌, insert, sym, ◌∙◌, ap, arith}
-use Rattle.tf_btree.specs.Subtree.{rows}
-use Rattle.tf_btree.proofs.Entries.{same_kind, same_height, same_parts}
+use Rattle.std.proofs.Common.{◌≡◌, ◌-◌, ◌<◌, ◌≤◌, length, take, drop, insert, false, sym, ◌∙◌, ap, arith}
+use Rattle.std.proofs.lemmas.List.{length-take, length-drop}
+use Rattle.std.proofs.lemmas.List.Edits.{length-insert}
+use Rattle.tf_btree.specs.Subtree.{rows, fill_of}
+use Rattle.tf_btree.proofs.Entries.{same_kind, same_height, same_parts, same_fills}
+use Rattle.tf_btree.proofs.Filled.{filled_branch, filled_left, filled_right}
 use Rattle.tf_btree.proofs.Edited.{split_left, split_right}
 use Rattle.tf_btree.proofs.node.Node.split_with_child.Goals as goal
 use Rattle.tf_btree.proofs.node.Node.split_with_child.Goals.{then-at_edge+then-at-eq-CAPACITY, else-at_edge}
 
-pub returns-then-middle-lt-CAPACITY : goal.returns-then-middle-lt-CAPACITY
-returns-then-middle-lt-CAPACITY g c =
+pub returns-then-middle-lt-CAPACITY-clause-split : goal.returns-then-middle-lt-CAPACITY-clause-split
+returns-then-middle-lt-CAPACITY-clause-split g c =
     let lt = c.if-middle-lt-CAPACITY.true in
     split_left _ _ _ c.if-at_edge.middle _ _
     (same_kind c.insert_child.ensures ∙ sym c.requires.branch) (same_height c.insert_child.ensures ∙ sym c.requires.level)
     (c.split_off.ensures.right_level (omega arith))
     (same_parts c.insert_child.ensures ∙ ap (λ ps. insert ps c.args.at (rows c.args.child.value)) c.split_off.ensures.left) c.split_off.ensures.right c.if-at-middle.true (omega arith)
 
-pub returns-else-at-middle : goal.returns-else-at-middle
-returns-else-at-middle g c =
+pub returns-else-at-middle-clause-split : goal.returns-else-at-middle-clause-split
+returns-else-at-middle-clause-split g c =
     let mid : (0 < c.if-at_edge.middle) × (c.if-at_edge.middle ≤ 32) × (c.if-at_edge.middle ≤ c.args.at) =
     elim c.if-at_edge.branch [
       | then-at_edge+then-at-eq-CAPACITY w ↦ let e = w.middle-is in let f = w.if-at-eq-CAPACITY.true in (omega arith, omega arith, omega arith)
@@ -26,3 +29,58 @@ returns-else-at-middle g c =
     c.split_off.ensures.left_kind (c.split_off.ensures.left_level mid.0)
     (same_height put ∙ sym c.requires.level)
     c.split_off.ensures.left (same_parts put ∙ ap (λ ps. insert ps (c.args.at - c.if-at_edge.middle) (rows c.args.child.value)) (same_parts at ∙ c.split_off.ensures.right)) mid.2 mid.0 (omega (arith, mid.1))
+
+pub returns-then-middle-lt-CAPACITY-clause-filled : goal.returns-then-middle-lt-CAPACITY-clause-filled
+returns-then-middle-lt-CAPACITY-clause-filled g c = λ all.
+    let mid : c.if-at_edge.middle ≡ 16 = elim c.if-at_edge.branch [ then-at_edge+then-at-eq-CAPACITY w ↦ absurd (let e = w.middle-is in let lt = c.if-middle-lt-CAPACITY.true in omega arith) | else-at_edge w ↦ w.middle-is ] in
+    let at = c.if-at-middle.true in
+    let full = c.requires.full in
+    let long = c.split_off.ensures.branch_fills c.requires.branch in
+    let short = length-take c.if-at_edge.middle c.args.self.now.parts in
+    let longer = length-insert (take c.if-at_edge.middle c.args.self.now.parts) c.args.at (rows c.args.child.value) (omega arith) in
+    let parts = ap length (same_parts c.insert_child.ensures ∙ ap (λ ps. insert ps c.args.at (rows c.args.child.value)) c.split_off.ensures.left) in
+    let parted = filled_left c.args.at_edge c.args.self.now.fills c.if-at_edge.middle c.args.at (fill_of c.args.child.value) at (omega arith) all in
+    filled_branch false c.insert_child.new.self _ (same_fills c.insert_child.ensures ∙ ap (λ fs. insert fs c.args.at (fill_of c.args.child.value)) c.split_off.ensures.left_fills) parted.0 (λ off. omega arith)
+
+pub returns-then-middle-lt-CAPACITY-clause-right_filled : goal.returns-then-middle-lt-CAPACITY-clause-right_filled
+returns-then-middle-lt-CAPACITY-clause-right_filled g c = λ all.
+    let mid : c.if-at_edge.middle ≡ 16 = elim c.if-at_edge.branch [ then-at_edge+then-at-eq-CAPACITY w ↦ absurd (let e = w.middle-is in let lt = c.if-middle-lt-CAPACITY.true in omega arith) | else-at_edge w ↦ w.middle-is ] in
+    let at = c.if-at-middle.true in
+    let full = c.requires.full in
+    let long = c.split_off.ensures.branch_fills c.requires.branch in
+    let short = length-drop c.if-at_edge.middle c.args.self.now.parts in
+    let parts = ap length c.split_off.ensures.right in
+    let parted = filled_left c.args.at_edge c.args.self.now.fills c.if-at_edge.middle c.args.at (fill_of c.args.child.value) at (omega arith) all in
+    filled_branch c.args.at_edge c.split_off.new.right _ c.split_off.ensures.right_fills parted.1 (λ off. omega arith)
+
+pub returns-else-at-middle-clause-filled : goal.returns-else-at-middle-clause-filled
+returns-else-at-middle-clause-filled g c = λ all.
+    let mid : (16 ≤ c.if-at_edge.middle) × (c.if-at_edge.middle ≤ 32) × (c.if-at_edge.middle ≤ c.args.at) =
+    elim c.if-at_edge.branch [
+      | then-at_edge+then-at-eq-CAPACITY w ↦ let e = w.middle-is in let f = w.if-at-eq-CAPACITY.true in (omega arith, omega arith, omega arith)
+      | else-at_edge w ↦ let e = w.middle-is in let f = c.else-at-middle.either in (omega arith, omega arith, grind arith)
+    ] in
+    let full = c.requires.full in
+    let long = c.split_off.ensures.branch_fills c.requires.branch in
+    let short = length-take c.if-at_edge.middle c.args.self.now.parts in
+    let parts = ap length c.split_off.ensures.left in
+    let parted = filled_right c.args.at_edge c.args.self.now.fills c.if-at_edge.middle c.args.at (fill_of c.args.child.value) mid.2 (omega arith) all in
+    filled_branch false c.split_off.new.self _ c.split_off.ensures.left_fills parted.0 (λ off. omega (arith, mid.0))
+
+pub returns-else-at-middle-clause-right_filled : goal.returns-else-at-middle-clause-right_filled
+returns-else-at-middle-clause-right_filled g c = λ all.
+    let mid : (c.args.at_edge ≡ false → c.if-at_edge.middle ≡ 16) × (c.if-at_edge.middle ≤ 32) × (c.if-at_edge.middle ≤ c.args.at) =
+    elim c.if-at_edge.branch [
+      | then-at_edge+then-at-eq-CAPACITY w ↦ let e = w.middle-is in let f = w.if-at-eq-CAPACITY.true in (λ off. absurd (let on = w.if-at_edge.true in cc), omega arith, omega arith)
+      | else-at_edge w ↦ let e = w.middle-is in let f = c.else-at-middle.either in (λ off. e, omega arith, grind arith)
+    ] in
+    let put = c.insert_child-else-at-middle.ensures in
+    let at = c.deref_mut-else-at-middle.ensures.value in
+    let full = c.requires.full in
+    let in_bounds = c.requires.in_bounds in
+    let long = c.split_off.ensures.branch_fills c.requires.branch in
+    let short = length-drop c.if-at_edge.middle c.args.self.now.parts in
+    let longer = length-insert (drop c.if-at_edge.middle c.args.self.now.parts) (c.args.at - c.if-at_edge.middle) (rows c.args.child.value) (omega (arith, mid.1)) in
+    let parts = ap length (same_parts put ∙ ap (λ ps. insert ps (c.args.at - c.if-at_edge.middle) (rows c.args.child.value)) (same_parts at ∙ c.split_off.ensures.right)) in
+    let parted = filled_right c.args.at_edge c.args.self.now.fills c.if-at_edge.middle c.args.at (fill_of c.args.child.value) mid.2 (omega arith) all in
+    filled_branch c.args.at_edge c.insert_child-else-at-middle.new.self _ (same_fills put ∙ ap (λ fs. insert fs (c.args.at - c.if-at_edge.middle) (fill_of c.args.child.value)) (same_fills at ∙ c.split_off.ensures.right_fills)) parted.1 (λ off. let m = mid.0 off in omega arith)

@@ -1,0 +1,90 @@
+-- The leaves below one branch, before and behind one of them.
+use Rattle.std.proofs.Common.{◌≡◌, ℕ, zero, suc, List, [], ◌∷◌, ◌++◌, length, map, take, drop, Some, Bool, true, false, refl, sym, ◌∙◌, ap, subst, arith, append_assoc}
+use Rattle.std.specs.declared.boxed.Box.{Box}
+use Rattle.std.proofs.lemmas.List.{take-map, drop-map}
+use Rattle.tf_btree.specs.Subtree.{Subtree, joined, rows}
+use Rattle.tf_btree.specs.Node.{first_key, AllHigh, height_of, parts_of, subtree_of, IsNode, unbox, unboxed}
+use Rattle.tf_btree.specs.Run.{pairs, rows_of, AllLeaves}
+use Rattle.tf_btree.proofs.Entries.{AllHigh-at, leaf_same, length-parts, same_height, same_parts, some_parts}
+use Rattle.tf_btree.proofs.Placed.{leaf_parts}
+
+AllLeaves-take : {K V : Type 0} (n : ℕ) (cs : List (Subtree K V)) → AllLeaves cs → AllLeaves (take n cs)
+AllLeaves-take zero cs a = tt
+AllLeaves-take (suc n) [] a = tt
+AllLeaves-take (suc n) (c ∷ cs) a = (a.0, a.1, AllLeaves-take n cs a.2)
+
+AllLeaves-drop : {K V : Type 0} (n : ℕ) (cs : List (Subtree K V)) → AllLeaves cs → AllLeaves (drop n cs)
+AllLeaves-drop zero cs a = a
+AllLeaves-drop (suc n) [] a = tt
+AllLeaves-drop (suc n) (c ∷ cs) a = AllLeaves-drop n cs a.2
+
+pub AllLeaves-parts : {K V : Type 0} (cs ds : List (Subtree K V)) → AllLeaves (cs ++ ds) → AllLeaves cs × AllLeaves ds
+AllLeaves-parts [] ds a = (tt, a)
+AllLeaves-parts (c ∷ cs) ds a = let rest = AllLeaves-parts cs ds a.2 in ((a.0, a.1, rest.0), rest.1)
+
+pub rows_of-append : {K V : Type 0} (cs ds : List (Subtree K V)) → rows_of (cs ++ ds) ≡ rows_of cs ++ rows_of ds
+rows_of-append [] ds = refl
+rows_of-append (c ∷ cs) ds = ap (λ r. rows c ++ r) (rows_of-append cs ds) ∙ sym (append_assoc (rows c) (rows_of cs) (rows_of ds))
+
+-- children of height 0, each with a first key
+leaves_in : {K V : Type 0} (ks : List K) (cs : List (Subtree K V)) → map Some ks ≡ map first_key (map rows cs) → AllHigh 1 cs → AllLeaves cs
+leaves_in ks [] e h = tt
+leaves_in [] (c ∷ cs) e h = absurd (cc)
+leaves_in (k ∷ ks) (c ∷ cs) e h =
+    let first : Some k ≡ first_key (rows c) = cc in
+    let rest : map Some ks ≡ map first_key (map rows cs) = cc in
+    let level : suc c.height ≡ 1 = h.0 in
+    (omega arith, some_parts c k first, leaves_in ks cs rest h.1)
+
+bottom_leaves : {K V : Type 0} (b : Bool) (ks : List K) (vs : List V) (cs : List (Subtree K V)) → b ≡ true → IsNode b ks vs cs → height_of b cs ≡ 1 → AllLeaves cs
+bottom_leaves false ks vs cs e n h = absurd (cc)
+bottom_leaves true ks vs cs e n h = leaves_in ks cs n.first_keys (AllHigh-at 1 _ cs h n.kind.1)
+
+branch_parts : {K V : Type 0} (b : Bool) (ks : List K) (vs : List V) (cs : List (Subtree K V)) → b ≡ true → parts_of b ks vs cs ≡ map rows cs
+branch_parts false ks vs cs e = absurd (cc)
+branch_parts true ks vs cs e = refl
+
+module _ {K V A : Type 0} (b : Bool) (ks : List K) (vs : List V) (bs : List (Box (Subtree K V) A)) (s : Subtree K V) (n : ℕ)
+    (node : IsNode b ks vs (unboxed bs)) (is : subtree_of b ks vs (unboxed bs) ≡ s) (branch : b ≡ true) (bottom : s.height ≡ 1) where
+  the_leaves : AllLeaves (unboxed bs)
+  the_leaves = bottom_leaves b ks vs (unboxed bs) branch node (same_height is ∙ bottom)
+
+  the_parts : map rows (unboxed bs) ≡ s.parts
+  the_parts = sym (branch_parts b ks vs (unboxed bs) branch) ∙ same_parts is
+
+  dropped : unboxed (drop n bs) ≡ drop n (unboxed bs)
+  dropped = sym (drop-map (unbox {X = Subtree K V} {Z = A}) n bs)
+
+  taken : unboxed (take n bs) ≡ take n (unboxed bs)
+  taken = sym (take-map (unbox {X = Subtree K V} {Z = A}) n bs)
+
+  pub behind_filled : AllLeaves (unboxed (drop n bs))
+  behind_filled = subst (λ (cs : List (Subtree K V)). AllLeaves cs) (sym dropped) (AllLeaves-drop n (unboxed bs) the_leaves)
+
+  pub before_filled : AllLeaves (unboxed (take n bs))
+  before_filled = subst (λ (cs : List (Subtree K V)). AllLeaves cs) (sym taken) (AllLeaves-take n (unboxed bs) the_leaves)
+
+  pub behind_rows : rows_of (unboxed (drop n bs)) ≡ joined (drop n s.parts)
+  behind_rows = ap (λ (cs : List (Subtree K V)). rows_of cs) dropped ∙ ap joined (sym (drop-map rows n (unboxed bs)) ∙ ap (λ (ps : List (List (K × V))). drop n ps) the_parts)
+
+  pub before_rows : rows_of (unboxed (take n bs)) ≡ joined (take n s.parts)
+  before_rows = ap (λ (cs : List (Subtree K V)). rows_of cs) taken ∙ ap joined (sym (take-map rows n (unboxed bs)) ∙ ap (λ (ps : List (List (K × V))). take n ps) the_parts)
+
+-- what is as high as a leaf is one
+low_leaf : {K V : Type 0} (b : Bool) (cs : List (Subtree K V)) → height_of b cs ≡ 0 → b ≡ false
+low_leaf false cs h = refl
+low_leaf true [] h = absurd (omega arith)
+low_leaf true (c ∷ cs) h = absurd (omega arith)
+
+module _ {K V : Type 0} (b : Bool) (ks : List K) (vs : List V) (cs : List (Subtree K V)) (s : Subtree K V) (node : IsNode b ks vs cs) (is : subtree_of b ks vs cs ≡ s) (low : s.height ≡ 0) where
+  a_leaf : b ≡ false
+  a_leaf = low_leaf b cs (same_height is ∙ low)
+
+  pub whole_same : length ks ≡ length vs
+  whole_same = (leaf_same b ks vs cs a_leaf node).1
+
+  pub whole_rows : pairs ks vs ≡ rows s
+  whole_rows = ap joined (sym (leaf_parts b ks vs cs a_leaf) ∙ same_parts is)
+
+  pub whole_len : length ks ≡ length s.parts
+  whole_len = sym (length-parts b ks vs cs node) ∙ ap length (same_parts is)

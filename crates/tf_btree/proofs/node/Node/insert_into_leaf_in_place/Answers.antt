@@ -1,0 +1,32 @@
+use Rattle.std.proofs.Common.{Some, sym, ◌∙◌, ap, arith}
+use Rattle.tf_btree.specs.Subtree.{joined}
+use Rattle.tf_btree.specs.Node.{first_key}
+use Rattle.tf_btree.proofs.Entries.{same_parts}
+use Rattle.tf_btree.proofs.Placed.{value_gap, value_found}
+use Rattle.tf_btree.proofs.Edited.{with_row_at, with_row_gap}
+use Rattle.tf_btree.proofs.InPlace.{first_part, first-set, first-insert}
+use Rattle.tf_btree.proofs.node.Node.insert_into_leaf_in_place.Goals as goal
+
+pub returns-else-at-eq0-clause-all : goal.returns-else-at-eq0-clause-all
+returns-else-at-eq0-clause-all g c = ap joined (same_parts c.replace_row.ensures.new) ∙ sym (with_row_at _ _ _ _ _ c.in-Ok.ensures.found)
+
+pub returns-else-at-eq0-clause-value : goal.returns-else-at-eq0-clause-value
+returns-else-at-eq0-clause-value g c =
+    let at = c.in-Ok.ensures.found in
+    ap Some (c.replace_row.ensures.old _ _ at.row.2) ∙ sym (value_found _ _ _ _ at)
+
+pub returns-else-at-eq0-clause-first : goal.returns-else-at-eq0-clause-first
+returns-else-at-eq0-clause-first g c =
+    ap (λ p. first_key (joined p)) (same_parts c.replace_row.ensures.new)
+    ∙ first-set c.args.self.now.parts c.in-Ok.at _ (omega arith) (first_part _ _ _ _ _ c.self.invariant.0 c.self.view_is c.requires.some)
+
+pub returns-else-len-eq-CAPACITY-clause-all : goal.returns-else-len-eq-CAPACITY-clause-all
+returns-else-len-eq-CAPACITY-clause-all g c = ap joined (same_parts c.insert_row.ensures) ∙ sym (with_row_gap _ _ _ _ _ c.in-Err.ensures.absent)
+
+pub returns-else-len-eq-CAPACITY-clause-value : goal.returns-else-len-eq-CAPACITY-clause-value
+returns-else-len-eq-CAPACITY-clause-value g c = sym (value_gap _ _ _ _ c.in-Err.ensures.absent)
+
+pub returns-else-len-eq-CAPACITY-clause-first : goal.returns-else-len-eq-CAPACITY-clause-first
+returns-else-len-eq-CAPACITY-clause-first g c =
+    ap (λ p. first_key (joined p)) (same_parts c.insert_row.ensures)
+    ∙ first-insert c.args.self.now.parts c.in-Err.at _ (omega arith) (first_part _ _ _ _ _ c.self.invariant.0 c.self.view_is c.requires.some)
