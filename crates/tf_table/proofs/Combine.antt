@@ -1,12 +1,13 @@
 -- What a merge has put out so far, and what the rows that are left still say.
-use Rattle.std.proofs.Common.{◌≡◌, ℕ, zero, suc, ◌<◌, List, [], ◌∷◌, ◌++◌, length, replicate, Option, Some, None, Bool, true, false, refl, sym, ◌∙◌, ap, subst, arith}
+use Rattle.std.proofs.Common.{◌≡◌, ℕ, zero, suc, ◌+◌, ◌<◌, ◌≤◌, List, [], ◌∷◌, ◌++◌, length, replicate, Option, Some, None, Bool, true, false, refl, sym, ◌∙◌, ap, subst, arith}
 use Rattle.std.specs.Cmp.{IsTotalOrder}
 use Rattle.std.specs.Ordering.{is_eq}
 use Rattle.std.specs.declared.cmp.Ordering.{Ordering}
 use Rattle.std.proofs.lemmas.Cmp.{tied_itself}
+use Rattle.std.proofs.lemmas.List.{append-nil, length_push}
 use Rattle.std.proofs.lemmas.Map.Lookups.{CmpEqualImpliesEq}
 use Rattle.tf_btree.specs.Rows.{AllAfter, IsRising, value_at}
-use Rattle.tf_table.specs.Content.{first_some, first_at, kept}
+use Rattle.tf_table.specs.Content.{first_some, first_at, kept, kept_row}
 use Rattle.tf_table.specs.Merge.{EachList, least_at, passed}
 use Rattle.tf_table.proofs.Rising.{AllBefore, IsRising-push, equal_from, value_at-there, value_at-here, value_at-before, value_at-append}
 use Rattle.tf_table.proofs.Least.{left_of, least_row, behind_each, EachList-behind, each_behind_after, behind_rising, behind_still_after, first_at-after, first_at-behind, first_at-empty, least_at-row, left_of-passed, rows_left, rows_left_fewer, least_from, least_entry, least_after, least_none}
@@ -43,11 +44,12 @@ module _ {K V : Type 0} (cmp : K → K → Ordering) (o : IsTotalOrder cmp) (exa
     pub left_rising : EachList (IsRising cmp) left
     pub before : AllBeforeEach out left
     pub entries : (key : K) → first_some (value_at cmp key out) (kept bottom (first_at cmp key left)) ≡ kept bottom (first_at cmp key lists)
+    pub fits : length out + rows_left cmp o left ≤ rows_left cmp o lists
 
   pub combines_start : (bottom : Bool) (lists left : List (List (K × Option V))) (out : List (K × Option V)) → EachList (IsRising cmp) lists → left ≡ lists → out ≡ [] → Combines bottom lists left out
   combines_start bottom lists left out rising e none =
       subst (λ (ls : List (List (K × Option V))). Combines bottom lists ls out) (sym e)
-      (subst (λ (rs : List (K × Option V)). Combines bottom lists lists rs) (sym none) (record { rising = tt; left_rising = rising; before = tt; entries = λ key. refl }))
+      (subst (λ (rs : List (K × Option V)). Combines bottom lists lists rs) (sym none) (record { rising = tt; left_rising = rising; before = tt; entries = λ key. refl; fits = omega arith }))
 
   AllBeforeEach-least : (out : List (K × Option V)) (lists : List (List (K × Option V))) (r : K × Option V) → least_row cmp o lists ≡ Some r → AllBeforeEach out lists → AllBefore cmp o r.0 out
   AllBeforeEach-least [] lists r e a = tt
@@ -89,6 +91,7 @@ module _ {K V : Type 0} (cmp : K → K → Ordering) (o : IsTotalOrder cmp) (exa
             ap (λ (v : Option (Option V)). first_some v (kept bottom (first_at cmp key (behind_each cmp o r.0 left)))) there
             ∙ ap (λ (v : Option (Option V)). first_some (value_at cmp key out) (kept bottom v)) (first_at-behind cmp o r.0 key left n)
             ∙ c.entries key);
+        fits = omega (arith, length_push out r, rows_left_fewer cmp o left r e, c.fits);
       }
 
   -- the least row is not kept
@@ -112,6 +115,7 @@ module _ {K V : Type 0} (cmp : K → K → Ordering) (o : IsTotalOrder cmp) (exa
             (λ n.
             ap (λ (v : Option (Option V)). first_some (value_at cmp key out) (kept bottom v)) (first_at-behind cmp o r.0 key left n)
             ∙ c.entries key);
+        fits = omega (arith, rows_left_fewer cmp o left r e, c.fits);
       }
 
   -- nothing is left
@@ -133,6 +137,18 @@ module _ {K V : Type 0} (cmp : K → K → Ordering) (o : IsTotalOrder cmp) (exa
   merge_skip bottom lists places out r c e drops =
       subst (λ (left : List (List (K × Option V))). Combines bottom lists left out) (sym (left_of-passed cmp o r.0 lists places))
       (combines_skip bottom lists (left_of lists places) out r c (sym (least_at-row cmp o lists places) ∙ e) drops)
+
+  pub merge_step : (bottom : Bool) (lists : List (List (K × Option V))) (places : List ℕ) (out : List (K × Option V)) (r : K × Option V) → Combines bottom lists (left_of lists places) out → least_at cmp lists places ≡ Some r
+      → Combines bottom lists (left_of lists (passed cmp r.0 lists places)) (out ++ kept_row bottom r)
+  merge_step true lists places out (k, None) c e =
+      subst (λ (rows : List (K × Option V)). Combines true lists (left_of lists (passed cmp k lists places)) rows) (sym (append-nil out)) (merge_skip true lists places out (k, None) c e refl)
+  merge_step true lists places out (k, Some v) c e = merge_more true lists places out (k, Some v) c e refl
+  merge_step false lists places out r c e = merge_more false lists places out r c e refl
+
+  -- while a row is left there is room for it
+  pub merge_fits : (bottom : Bool) (lists : List (List (K × Option V))) (places : List ℕ) (out : List (K × Option V)) (r : K × Option V) → Combines bottom lists (left_of lists places) out → least_at cmp lists places ≡ Some r → length out < rows_left cmp o lists
+  merge_fits bottom lists places out r c e =
+      omega (arith, rows_left_fewer cmp o (left_of lists places) r (sym (least_at-row cmp o lists places) ∙ e), c.fits)
 
   pub merge_fewer : (lists : List (List (K × Option V))) (places : List ℕ) (r : K × Option V) → least_at cmp lists places ≡ Some r → rows_left cmp o (left_of lists (passed cmp r.0 lists places)) < rows_left cmp o (left_of lists places)
   merge_fewer lists places r e =

@@ -5,7 +5,8 @@ use Rattle.std.proofs.lemmas.List.{length_push}
 use Rattle.std.proofs.lemmas.Option.{slice_get-get_or}
 use Rattle.tf_table.specs.declared.key.Key.{Key}
 use Rattle.tf_table.specs.declared.entries.Entries.{Entries}
-use Rattle.tf_table.specs.Entries.{entries_of}
+use Rattle.tf_table.specs.declared.entries.Entries.TheVariants.{Same, Each}
+use Rattle.tf_table.specs.Entries.{entries_of, HasEntry}
 use Rattle.tf_table.specs.Rows.{rows_of, IsPaired}
 
 length-zip : {K E : Type 0} (ks : List K) (es : List E) → length es ≡ length ks → length (zip ks es) ≡ length ks
@@ -40,6 +41,14 @@ row_read ks es p k e h l same entry =
 -- the key of the row at a place
 pub key_there : {V A : Type 0} (ks : List Key) (es : Entries V A) (p : ℕ) (d : Key × Option V) → IsPaired ks es → p < length ks → (get_or (rows_of ks es) p d).0 ≡ get_or ks p d.0
 key_there {V} ks es p d h l = ap (λ (r : Key × Option V). r.0) (get_or-zip ks (entries_of (length ks) es) p d.0 d.1 h l)
+
+-- its entry
+pub entry_there : {V A : Type 0} (ks : List Key) (es : Entries V A) (p : ℕ) (d : Key × Option V) → IsPaired ks es → p < length ks → (get_or (rows_of ks es) p d).1 ≡ get_or (entries_of (length ks) es) p d.1
+entry_there {V} ks es p d h l = ap (λ (r : Key × Option V). r.1) (get_or-zip ks (entries_of (length ks) es) p d.0 d.1 h l)
+
+pub has_entry : {V A : Type 0} (ks : List Key) (es : Entries V A) (p : ℕ) → IsPaired ks es → p < length ks → HasEntry p es
+has_entry ks (Same entry) p h l = tt
+has_entry ks (Each entries) p h l = omega arith
 
 -- one more row at the end
 pub rows_of-more : {V A : Type 0} (ks ks' : List Key) (es es' : Entries V A) (n : ℕ) (k : Key) (e : Option V) → n ≡ length ks → IsPaired ks es → ks' ≡ ks ++ k ∷ [] → entries_of (n + 1) es' ≡ entries_of n es ++ e ∷ [] → rows_of ks' es' ≡ rows_of ks es ++ (k, e) ∷ []

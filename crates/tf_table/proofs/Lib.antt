@@ -4,6 +4,7 @@ pub mod Found
 pub mod Keys
 pub mod LaidOut
 pub mod Least
+pub mod Merged
 pub mod Places
 pub mod Rising
 pub mod Spans

@@ -59,3 +59,9 @@ value_only (Some (Some v)) = Some (Some v)
 abbrev pub kept : {V : Type 0} → Bool → Option (Option V) → Option (Option V)
 kept true entry = value_only entry
 kept false entry = entry
+
+-- a row as a merge keeps it
+abbrev pub kept_row : {K V : Type 0} → Bool → K × Option V → List (K × Option V)
+kept_row true (key, None) = []
+kept_row true (key, Some v) = (key, Some v) ∷ []
+kept_row false r = r ∷ []

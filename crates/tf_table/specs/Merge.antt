@@ -1,9 +1,12 @@
 -- Lists of rows, newest first, and the places in them that a merge has come to.
-use Rattle.std.specs.Prelude.{ℕ, ◌+◌, List, [], ◌∷◌, Option, Some, None, Bool, false, if◌then◌else◌, slice_get}
+use Rattle.std.specs.Prelude.{◌≡◌, ℕ, ◌+◌, ◌≤◌, List, [], ◌∷◌, Option, Some, None, Bool, false, if◌then◌else◌, length, sum_by, slice_get}
 use Rattle.std.specs.declared.cmp.Ordering.{Ordering}
 use Rattle.std.specs.Ordering.{is_lt, is_eq}
 use Rattle.std.specs.Option.{option_copied}
+use Rattle.tf_btree.specs.Rows.{IsRising}
 use Rattle.tf_table.specs.declared.key.Key.{Key}
+use Rattle.tf_table.specs.Key.{key_cmp}
+use Rattle.tf_table.specs.Content.{entry_at, entry_of, kept}
 use denote.Ref.{Bor}
 
 -- a row by reference, as a row
@@ -38,3 +41,9 @@ module _ {K E : Type 0} (cmp : K → K → Ordering) where
   passed key [] places = []
   passed key (rows ∷ lists) [] = []
   passed key (rows ∷ lists) (place ∷ places) = (if has_key key (slice_get rows place) then place + 1 else place) ∷ passed key lists places
+
+-- the rows rise, and say of each key what the lists say of it, with no more rows than the lists have
+pub record IsMerged {V : Type 0} (bottom : Bool) (lists : List (List (Key × Option V))) (rows : List (Key × Option V)) : Type 0 where
+  pub rising : IsRising key_cmp rows
+  pub entries : (key : Key) → entry_at key rows ≡ kept bottom (entry_of key lists)
+  pub within : length rows ≤ sum_by (λ (list : List (Key × Option V)). length list) lists

@@ -1,10 +1,10 @@
 -- How a table lays out its rows: the keys in one run, the entries in another form.
-use Rattle.std.specs.Prelude.{◌≡◌, ◌-◌, ◌<◌, List, Option, length, slice_index_or}
+use Rattle.std.specs.Prelude.{◌≡◌, ℕ, ◌-◌, ◌<◌, ◌≤◌, List, Option, length, slice_index_or}
 use Rattle.std.specs.List.{zip}
 use Rattle.tf_btree.specs.Rows.{IsRising}
 use Rattle.tf_table.specs.declared.key.Key.{Key}
 use Rattle.tf_table.specs.declared.entries.Entries.{Entries}
-use Rattle.tf_table.specs.Entries.{entries_of}
+use Rattle.tf_table.specs.Entries.{entries_of, HasRoomFor}
 use Rattle.tf_table.specs.Key.{key_cmp}
 
 -- each key with its entry
@@ -14,6 +14,10 @@ rows_of keys entries = zip keys (entries_of (length keys) entries)
 -- there are as many entries as keys
 abbrev pub IsPaired : {V A : Type 0} → List Key → Entries V A → Type 0
 IsPaired keys entries = length (entries_of (length keys) entries) ≡ length keys
+
+-- there is room for so many keys, and for as many entries
+abbrev pub IsRoomy : {V A : Type 0} → ℕ → ℕ → Entries V A → Type 0
+IsRoomy room keys_room entries = (room ≤ keys_room) × HasRoomFor room entries
 
 -- the keys rise, and the least and the greatest stand apart too
 pub record IsLaidOut {V A : Type 0} (least greatest : Key) (keys : List Key) (entries : Entries V A) : Type 0 where

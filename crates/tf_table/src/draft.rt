@@ -1,10 +1,12 @@
 //! Rows on their way into a sealed table.
-ghost use Rattle.std.specs.Prelude.{◌≡◌, ◌+◌, ◌<◌, ◌≤◌, [], ◌∷◌, ◌++◌, length, IfOk, OnOk};
+ghost use Rattle.std.specs.Prelude.{◌≡◌, ◌+◌, ◌<◌, ◌≤◌, [], ◌∷◌, ◌++◌, length, IfOk, OnOk, vec_capacity};
 ghost use Rattle.tf_btree.specs.Rows.{IsRising};
 ghost use Rattle.tf_table.specs.Key.{key_cmp};
-ghost use Rattle.tf_table.specs.Rows.{rows_of, IsPaired};
+ghost use Rattle.tf_table.specs.Content.{kept_row};
+ghost use Rattle.tf_table.specs.Rows.{rows_of, IsPaired, IsRoomy};
 
 use crate::entries::Entries;
+use crate::front::Front;
 use crate::{Key, Repeats, Sealed};
 use std::alloc::{AllocError, Allocator};
 
@@ -17,10 +19,12 @@ pub(crate) struct Draft<V, A: Allocator> {
 }
 
 impl<V: Repeats, A: Allocator + Clone> Draft<V, A> {
-    /// No rows, and room for the keys of `room` rows.
+    /// No rows, and room for `room` rows.
     pub(crate) fn with_room(alloc: A, room: usize) -> Result<Self, AllocError>
         ensures none { IfOk result (λ d. rows_of d.keys.items d.entries ≡ []) }
         ensures paired { IfOk result (λ d. IsPaired d.keys.items d.entries) }
+        ensures room { IfOk result (λ d. d.room ≡ room) }
+        ensures roomy { IfOk result (λ d. IsRoomy d.room (vec_capacity d.keys) d.entries) }
     {
         let keys = Vec::with_capacity(alloc, room)?;
         Ok(Draft {
@@ -32,16 +36,39 @@ impl<V: Repeats, A: Allocator + Clone> Draft<V, A> {
 
     /// Puts a row behind the others. After an `Err` the draft is of no more use.
     #[inline]
-    pub(crate) fn add(&mut self, key: Key, entry: Option<V>) -> Result<(), AllocError>
-        requires { IsPaired self.old.keys.items self.old.entries }
-        ensures rows { OnOk result (rows_of self.new.keys.items self.new.entries ≡ rows_of self.old.keys.items self.old.entries ++ (key, entry) ∷ []) }
+    pub(crate) fn add(&mut self, key: &Key, entry: &Option<V>) -> Result<(), AllocError>
+        requires paired { IsPaired self.old.keys.items self.old.entries }
+        requires roomy { IsRoomy self.old.room (vec_capacity self.old.keys) self.old.entries }
+        requires fits { length (rows_of self.old.keys.items self.old.entries) < self.old.room }
+        ensures rows { OnOk result (rows_of self.new.keys.items self.new.entries ≡ rows_of self.old.keys.items self.old.entries ++ (key.now, entry.now) ∷ []) }
         ensures paired { OnOk result (IsPaired self.new.keys.items self.new.entries) }
+        ensures roomy { OnOk result (IsRoomy self.new.room (vec_capacity self.new.keys) self.new.entries) }
+        ensures room { self.new.room ≡ self.old.room }
     {
         let rows = self.keys.len();
         self.entries
             .add(self.keys.allocator(), rows, self.room, entry)?;
-        self.keys.push(key)?;
+        self.keys.push_reserved(*key);
         Ok(())
+    }
+
+    /// Puts the row behind the others, unless it is a tombstone at the bottom. After an `Err` the draft is of no more
+    /// use.
+    #[inline]
+    pub(crate) fn keep(&mut self, row: &Front<'_, V, A>, bottom: bool) -> Result<(), AllocError>
+        requires paired { IsPaired self.old.keys.items self.old.entries }
+        requires roomy { IsRoomy self.old.room (vec_capacity self.old.keys) self.old.entries }
+        requires fits { length (rows_of self.old.keys.items self.old.entries) < self.old.room }
+        ensures rows { OnOk result (rows_of self.new.keys.items self.new.entries ≡ rows_of self.old.keys.items self.old.entries ++ kept_row bottom row.now) }
+        ensures paired { OnOk result (IsPaired self.new.keys.items self.new.entries) }
+        ensures roomy { OnOk result (IsRoomy self.new.room (vec_capacity self.new.keys) self.new.entries) }
+        ensures room { self.new.room ≡ self.old.room }
+    {
+        let entry = row.entry();
+        if bottom && entry.is_none() {
+            return Ok(());
+        }
+        self.add(row.key(), entry)
     }
 
     /// The table of the rows. Room that they don't take is given back.

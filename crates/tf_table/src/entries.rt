@@ -1,7 +1,7 @@
 //! The entries of a table's rows, apart from their keys.
-ghost use Rattle.std.specs.Prelude.{◌≡◌, ◌↔◌, ℕ, ◌+◌, ◌<◌, ◌≤◌, [], ◌∷◌, ◌++◌, length, replicate, Option, IsTrue, IfOk, OnOk, slice_index_or};
+ghost use Rattle.std.specs.Prelude.{◌≡◌, ◌↔◌, ℕ, ◌+◌, ◌<◌, ◌≤◌, [], ◌∷◌, ◌++◌, length, replicate, Option, IsTrue, IfOk, OnOk, slice_index_or, vec_capacity};
 ghost use Rattle.std.specs.Option.{option_copied};
-ghost use Rattle.tf_table.specs.Entries.{entries_of, HasEntry};
+ghost use Rattle.tf_table.specs.Entries.{entries_of, HasEntry, HasRoomFor};
 
 use std::alloc::{AllocError, Allocator};
 
@@ -47,9 +47,18 @@ impl<V, A: Allocator> Entries<V, A> {
         requires { HasEntry place self.now }
         ensures { (rows : ℕ) (d : Option V) → place < rows → slice_index_or (entries_of rows self.now) place d ≡ option_copied result }
     {
+        self.entry(place).as_ref()
+    }
+
+    /// The same, as it is stored.
+    #[inline]
+    pub(crate) fn entry(&self, place: usize) -> &Option<V>
+        requires { HasEntry place self.now }
+        ensures { (rows : ℕ) (d : Option V) → place < rows → slice_index_or (entries_of rows self.now) place d ≡ result.now }
+    {
         match self {
-            Entries::Same(entry) => entry.as_ref(),
-            Entries::Each(entries) => entries[place].as_ref(),
+            Entries::Same(entry) => entry,
+            Entries::Each(entries) => &entries[place],
         }
     }
 
@@ -71,18 +80,21 @@ impl<V: Repeats, A: Allocator + Clone> Entries<V, A> {
         alloc: &A,
         rows: usize,
         room: usize,
-        entry: Option<V>,
+        entry: &Option<V>,
     ) -> Result<(), AllocError>
-        requires { length (entries_of rows self.old) ≡ rows }
-        ensures { OnOk result (entries_of (rows + 1) self.new ≡ entries_of rows self.old ++ entry ∷ []) }
+        requires paired { length (entries_of rows self.old) ≡ rows }
+        requires fits { rows < room }
+        requires roomy { HasRoomFor room self.old }
+        ensures rows { OnOk result (entries_of (rows + 1) self.new ≡ entries_of rows self.old ++ entry.now ∷ []) }
+        ensures roomy { OnOk result (HasRoomFor room self.new) }
     {
         match self {
-            Entries::Each(entries) => entries.push(entry)?,
+            Entries::Each(entries) => entries.push_reserved(*entry),
             Entries::Same(same) => {
                 if rows == 0 {
-                    *same = entry;
-                } else if !is_repeated(same, &entry) {
-                    *self = Entries::Each(spread(alloc.clone()?, *same, rows, room, entry)?);
+                    *same = *entry;
+                } else if !is_repeated(same, entry) {
+                    *self = Entries::Each(spread(alloc.clone()?, same, rows, room, entry)?);
                 }
             }
         }
@@ -103,19 +115,22 @@ fn is_repeated<V: Repeats>(entry: &Option<V>, other: &Option<V>) -> bool
 }
 
 /// A run of its own for entries that were the same up to the last one, with room for `room` of them.
+#[cold]
+#[inline(never)]
 fn spread<V: Copy, A: Allocator>(
     alloc: A,
-    same: Option<V>,
+    same: &Option<V>,
     rows: usize,
     room: usize,
-    last: Option<V>,
+    last: &Option<V>,
 ) -> Result<Vec<Option<V>, A>, AllocError>
-    ensures { IfOk result (λ entries. entries.items ≡ replicate rows same ++ last ∷ []) }
+    ensures items { IfOk result (λ entries. entries.items ≡ replicate rows same.now ++ last.now ∷ []) }
+    ensures room { IfOk result (λ entries. room ≤ vec_capacity entries) }
 {
     let mut entries = Vec::with_capacity(alloc, room)?;
     for _row in 0..rows {
-        entries.push(same)?;
+        entries.push(*same)?;
     }
-    entries.push(last)?;
+    entries.push(*last)?;
     Ok(entries)
 }

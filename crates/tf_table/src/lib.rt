@@ -6,8 +6,10 @@
 mod cursor;
 mod draft;
 mod entries;
+mod front;
 mod key;
 mod merging;
+mod pair;
 mod sealed;
 mod sealing;
 mod search;

@@ -29,7 +29,7 @@ fn sealed_rows<V: Repeats, A: Allocator + Clone>(
 {
     let mut draft = Draft::with_room(alloc, tree.len())?;
     for (key, entry) in tree.seek(&Key::LEAST) {
-        draft.add(*key, *entry)?;
+        draft.add(key, entry)?;
     }
     Ok(draft.seal())
 }

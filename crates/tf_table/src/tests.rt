@@ -1,11 +1,13 @@
 //! The worked example of two small tables, and each public call once.
 
+mod edges;
+mod many;
+mod refusals;
+
 use crate::{Key, Sealed, merge, seal};
-use bumpalo::Bump;
 use std::alloc::{Allocator, Global};
 use std::test::Fail;
 use tf_btree::Tree;
-use tf_records::Refusal;
 
 /// A key with this value, of a record with timestamp 1.
 fn key(value: u128) -> Key {
@@ -114,58 +116,5 @@ fn seek_goes_both_ways(rt: HostRuntime) -> Result<(), Fail> {
     assert_eq!(rt; down.next_back().map(|r| r.0.value), Some(3));
     assert_eq!(rt; down.next_back().map(|r| r.0.value), Some(1));
     assert_eq!(rt; down.next_back().map(|r| r.0.value), None);
-    Ok(())
-}
-
-/// A key, and the same with a tombstone, as two rows of two tables.
-#[test]
-fn each_refused_request_leaves_the_tables_as_they_were(rt: HostRuntime) -> Result<(), Fail> {
-    let arena = Bump::new(rt.alloc());
-    let newest = seal(&arena, &tree_of(&arena, &[(5, None), (7, Some(10))])?)?;
-    let older = seal(&arena, &tree_of(&arena, &[(5, Some(20)), (6, Some(30))])?)?;
-    let before = arena.allocated_bytes();
-    for more in 0..4096 {
-        arena.set_allocation_limit(Some(before.saturating_add(more)));
-        match merge(&arena, &[&newest, &older], false) {
-            Ok(table) => {
-                assert_eq!(rt;
-                    rows_of(&rt, &table)?.as_slice(),
-                    [(5, None), (6, Some(30)), (7, Some(10))].as_slice()
-                );
-                break;
-            }
-            Err(refusal) => assert_eq!(rt; refusal, Refusal::NoMemory),
-        }
-    }
-    assert_eq!(rt;
-        rows_of(&rt, &newest)?.as_slice(),
-        [(5, None), (7, Some(10))].as_slice()
-    );
-    assert_eq!(rt;
-        rows_of(&rt, &older)?.as_slice(),
-        [(5, Some(20)), (6, Some(30))].as_slice()
-    );
-    Ok(())
-}
-
-#[test]
-fn each_refused_request_leaves_the_tree_as_it_was(rt: HostRuntime) -> Result<(), Fail> {
-    let arena = Bump::new(rt.alloc());
-    let tree = tree_of(&arena, &[(5, None), (7, Some(10)), (9, Some(11))])?;
-    let before = arena.allocated_bytes();
-    for more in 0..4096 {
-        arena.set_allocation_limit(Some(before.saturating_add(more)));
-        match seal(&arena, &tree) {
-            Ok(table) => {
-                assert_eq!(rt;
-                    rows_of(&rt, &table)?.as_slice(),
-                    [(5, None), (7, Some(10)), (9, Some(11))].as_slice()
-                );
-                break;
-            }
-            Err(refusal) => assert_eq!(rt; refusal, Refusal::NoMemory),
-        }
-    }
-    assert_eq!(rt; tree.len(), 3);
     Ok(())
 }

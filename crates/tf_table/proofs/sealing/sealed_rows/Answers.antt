@@ -14,6 +14,8 @@ loop-key-init g c =
     record {
       paired = c.in_ok-draft.ensures.paired;
       rows = ap (λ (none : List (Key × Option g.row.V.Denot)). none ++ rows) c.in_ok-draft.ensures.none ∙ start;
+      room = c.in_ok-draft.ensures.room ∙ c.len.ensures.value;
+      roomy = c.in_ok-draft.ensures.roomy;
     }
 
 pub seal-requires-clause-rising : goal.seal-requires-clause-rising

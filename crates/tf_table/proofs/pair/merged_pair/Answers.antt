@@ -1,0 +1,44 @@
+use Rattle.std.proofs.Common.{◌≡◌, ℕ, ◌<◌, List, [], ◌∷◌, ◌++◌, Option, Some, None, ap, sym, ◌∙◌, subst}
+use Rattle.std.specs.Option.{option_map}
+use Rattle.tf_table.specs.declared.key.Key.{Key}
+use Rattle.tf_table.specs.Key.{key_cmp}
+use Rattle.tf_table.specs.Content.{kept_row}
+use Rattle.tf_table.specs.Merge.{least_at}
+use Rattle.tf_table.specs.Rows.{rows_of}
+use Rattle.tf_table.proofs.Keys.{keys_total, exact_keys}
+use Rattle.tf_table.proofs.Least.{left_of, rows_left}
+use Rattle.tf_table.proofs.Combine.{Combines, merge_step, merge_fewer}
+use Rattle.tf_table.proofs.Merged.{merges, none_from_not}
+use Rattle.tf_table.proofs.pair.merged_pair.Goals as goal
+
+pub loop-step-smaller : goal.loop-step-smaller
+loop-step-smaller g c =
+    let lists = c.args.newer.now ∷ c.args.older.now ∷ [] in
+    let places = c.loop-step.newer_place ∷ c.loop-step.older_place ∷ [] in
+    let r = c.in-Some.step.row in
+    let e : least_at key_cmp lists places ≡ Some r = sym c.in-Some.ensures.row in
+    subst (λ (ps : List ℕ). rows_left key_cmp keys_total (left_of lists ps) < rows_left key_cmp keys_total (left_of lists places)) (sym c.in-Some.ensures.places) (merge_fewer key_cmp keys_total exact_keys lists places r e)
+
+pub loop-step-preserved : goal.loop-step-preserved
+loop-step-preserved g c =
+    let lists = c.args.newer.now ∷ c.args.older.now ∷ [] in
+    let places = c.loop-step.newer_place ∷ c.loop-step.older_place ∷ [] in
+    let r = c.in-Some.step.row in
+    let out = rows_of c.loop-step.draft.keys.items c.loop-step.draft.entries in
+    let e : least_at key_cmp lists places ≡ Some r = sym c.in-Some.ensures.row in
+    let more : Combines key_cmp keys_total exact_keys c.args.bottom lists (left_of lists (c.in-Some.step.newer ∷ c.in-Some.step.older ∷ [])) (out ++ kept_row c.args.bottom r) =
+    subst (λ (ps : List ℕ). Combines key_cmp keys_total exact_keys c.args.bottom lists (left_of lists ps) (out ++ kept_row c.args.bottom r)) (sym c.in-Some.ensures.places)
+    (merge_step key_cmp keys_total exact_keys c.args.bottom lists places out r c.loop-step.invariant.combines e) in
+    record {
+      paired = c.in_ok-keep.ensures.paired;
+      roomy = c.in_ok-keep.ensures.roomy;
+      room = c.keep.ensures.room ∙ c.loop-step.invariant.room;
+      combines = subst (λ (rows : List (Key × Option g.row.V.Denot)). Combines key_cmp keys_total exact_keys c.args.bottom lists (left_of lists (c.in-Some.step.newer ∷ c.in-Some.step.older ∷ [])) rows) (sym c.in_ok-keep.ensures.rows) more;
+    }
+
+pub returns : goal.returns
+returns g c =
+    let lists = c.args.newer.now ∷ c.args.older.now ∷ [] in
+    let places = c.loop-step.newer_place ∷ c.loop-step.older_place ∷ [] in
+    let e : least_at key_cmp lists places ≡ None = sym c.next_step.ensures.row ∙ ap (option_map (λ step. step.row)) (none_from_not c.next_step.result c.in_default.not-Some) in
+    merges c.args.bottom lists places c.seal.result (subst (Combines key_cmp keys_total exact_keys c.args.bottom lists (left_of lists places)) (sym c.seal.ensures) c.loop-step.invariant.combines) e
