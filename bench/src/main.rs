@@ -1,0 +1,92 @@
+//! The workloads of `tf_bench` in plain Rust, by the same words: `plain WORKLOAD COUNT SEED VALUE_SIZE` prints the
+//! checksum and the nanoseconds that it took.
+
+mod keys;
+mod table;
+mod tree;
+
+use keys::{Payload, Words};
+use std::env;
+use std::process::ExitCode;
+use std::time::Instant;
+use table::Keys;
+
+/// How often a workload does what it does, and the seed of its keys.
+#[derive(Clone, Copy)]
+pub struct Run {
+    pub count: u64,
+    pub seed: u64,
+}
+
+/// What a workload gave, and how long it took.
+pub struct Measured {
+    pub checksum: u64,
+    pub nanoseconds: u128,
+}
+
+fn run<V: Payload>(workload: &str, run: Run) -> Option<Measured> {
+    match workload {
+        "tree_insert_rising" => Some(tree::insert_rising::<V>(run)),
+        "tree_insert_random" => Some(tree::insert_random::<V>(run)),
+        "tree_rounds" => Some(tree::rounds::<V>(run)),
+        "tree_get_hit" => Some(tree::get_hit::<V>(run)),
+        "tree_get_miss" => Some(tree::get_miss::<V>(run)),
+        "tree_walk" => Some(tree::walk::<V>(run)),
+        "tree_seek_up" => Some(tree::seek_up::<V>(run)),
+        "tree_seek_down" => Some(tree::seek_down::<V>(run)),
+        "tree_remove" => Some(tree::remove::<V>(run)),
+        "table_seal" => Some(table::seal::<V>(run)),
+        "table_merge_2_disjoint" => Some(table::merge::<V>(run, 2, Keys::Disjoint)),
+        "table_merge_2_interleaved" => Some(table::merge::<V>(run, 2, Keys::Interleaved)),
+        "table_merge_2_half_shared" => Some(table::merge::<V>(run, 2, Keys::HalfShared)),
+        "table_merge_4_disjoint" => Some(table::merge::<V>(run, 4, Keys::Disjoint)),
+        "table_merge_4_interleaved" => Some(table::merge::<V>(run, 4, Keys::Interleaved)),
+        "table_merge_4_half_shared" => Some(table::merge::<V>(run, 4, Keys::HalfShared)),
+        "table_find_hit" => Some(table::find_hit::<V>(run)),
+        "table_find_miss_inside" => Some(table::find_miss_inside::<V>(run)),
+        "table_find_miss_outside" => Some(table::find_miss_outside::<V>(run)),
+        "table_seek_up" => Some(table::seek_up::<V>(run)),
+        "table_seek_down" => Some(table::seek_down::<V>(run)),
+        _ => None,
+    }
+}
+
+/// Times the work, which gives a checksum.
+pub fn measure(work: impl FnOnce() -> u64) -> Measured {
+    let start = Instant::now();
+    let checksum = work();
+    Measured {
+        checksum,
+        nanoseconds: start.elapsed().as_nanos(),
+    }
+}
+
+fn answer() -> Option<Measured> {
+    let words: Vec<String> = env::args().collect();
+    let [_, workload, count, seed, value_size] = words.as_slice() else {
+        return None;
+    };
+    let request = Run {
+        count: count.parse().ok()?,
+        seed: seed.parse().ok()?,
+    };
+    match value_size.as_str() {
+        "0" => run::<()>(workload, request),
+        "16" => run::<Words<2>>(workload, request),
+        "160" => run::<Words<20>>(workload, request),
+        _ => None,
+    }
+}
+
+fn main() -> ExitCode {
+    match answer() {
+        Some(measured) => {
+            println!("{} {}", measured.checksum, measured.nanoseconds);
+            ExitCode::SUCCESS
+        }
+        None => {
+            eprintln!("usage: plain WORKLOAD COUNT SEED VALUE_SIZE");
+            ExitCode::FAILURE
+        }
+    }
+}

@@ -1,0 +1,224 @@
+//! The workloads by name.
+
+use crate::keys::{Large, Payload, Small};
+use crate::table::{Keys, Wanted};
+use crate::{table, tree};
+use std::io;
+use std::time::Clock;
+
+/// How often a workload does what it does, and the seed of its keys.
+#[derive(Clone, Copy)]
+pub(crate) struct Run {
+    pub(crate) count: u64,
+    pub(crate) seed: u64,
+}
+
+/// What a workload gave, and how long it took.
+#[derive(Clone, Copy)]
+pub(crate) struct Measured {
+    pub(crate) checksum: u64,
+    pub(crate) nanoseconds: u128,
+}
+
+/// What can be measured.
+#[derive(Clone, Copy)]
+pub(crate) enum Workload {
+    TreeInsertRising,
+    TreeInsertRandom,
+    TreeRounds,
+    TreeGetHit,
+    TreeGetMiss,
+    TreeWalk,
+    TreeSeekUp,
+    TreeSeekDown,
+    TreeRemove,
+    TableSeal,
+    TableMerge2Disjoint,
+    TableMerge2Interleaved,
+    TableMerge2HalfShared,
+    TableMerge4Disjoint,
+    TableMerge4Interleaved,
+    TableMerge4HalfShared,
+    TableFindHit,
+    TableFindMissInside,
+    TableFindMissOutside,
+    TableSeekUp,
+    TableSeekDown,
+}
+
+impl Workload {
+    /// Every workload.
+    pub(crate) const ALL: [Workload; 21] = [
+        Workload::TreeInsertRising,
+        Workload::TreeInsertRandom,
+        Workload::TreeRounds,
+        Workload::TreeGetHit,
+        Workload::TreeGetMiss,
+        Workload::TreeWalk,
+        Workload::TreeSeekUp,
+        Workload::TreeSeekDown,
+        Workload::TreeRemove,
+        Workload::TableSeal,
+        Workload::TableMerge2Disjoint,
+        Workload::TableMerge2Interleaved,
+        Workload::TableMerge2HalfShared,
+        Workload::TableMerge4Disjoint,
+        Workload::TableMerge4Interleaved,
+        Workload::TableMerge4HalfShared,
+        Workload::TableFindHit,
+        Workload::TableFindMissInside,
+        Workload::TableFindMissOutside,
+        Workload::TableSeekUp,
+        Workload::TableSeekDown,
+    ];
+
+    /// The name by which it is asked for.
+    pub(crate) fn name(self) -> &'static str {
+        match self {
+            Workload::TreeInsertRising => "tree_insert_rising",
+            Workload::TreeInsertRandom => "tree_insert_random",
+            Workload::TreeRounds => "tree_rounds",
+            Workload::TreeGetHit => "tree_get_hit",
+            Workload::TreeGetMiss => "tree_get_miss",
+            Workload::TreeWalk => "tree_walk",
+            Workload::TreeSeekUp => "tree_seek_up",
+            Workload::TreeSeekDown => "tree_seek_down",
+            Workload::TreeRemove => "tree_remove",
+            Workload::TableSeal => "table_seal",
+            Workload::TableMerge2Disjoint => "table_merge_2_disjoint",
+            Workload::TableMerge2Interleaved => "table_merge_2_interleaved",
+            Workload::TableMerge2HalfShared => "table_merge_2_half_shared",
+            Workload::TableMerge4Disjoint => "table_merge_4_disjoint",
+            Workload::TableMerge4Interleaved => "table_merge_4_interleaved",
+            Workload::TableMerge4HalfShared => "table_merge_4_half_shared",
+            Workload::TableFindHit => "table_find_hit",
+            Workload::TableFindMissInside => "table_find_miss_inside",
+            Workload::TableFindMissOutside => "table_find_miss_outside",
+            Workload::TableSeekUp => "table_seek_up",
+            Workload::TableSeekDown => "table_seek_down",
+        }
+    }
+
+    /// The workload of a name.
+    fn named(name: &str) -> Option<Workload> {
+        for workload in Workload::ALL {
+            if workload.name() == name {
+                return Some(workload);
+            }
+        }
+        None
+    }
+
+    /// Runs it over values of a size.
+    pub(crate) fn run<R: Clock + AllocGlobal>(
+        self,
+        rt: &R,
+        run: Run,
+        size: ValueSize,
+    ) -> io::Result<Measured> {
+        match size {
+            ValueSize::None => self.run_over::<(), R>(rt, run),
+            ValueSize::Small => self.run_over::<Small, R>(rt, run),
+            ValueSize::Large => self.run_over::<Large, R>(rt, run),
+        }
+    }
+
+    fn run_over<V: Payload, R: Clock + AllocGlobal>(
+        self,
+        rt: &R,
+        run: Run,
+    ) -> io::Result<Measured> {
+        match self {
+            Workload::TreeInsertRising => tree::insert_rising::<V, R>(rt, run),
+            Workload::TreeInsertRandom => tree::insert_random::<V, R>(rt, run),
+            Workload::TreeRounds => tree::rounds::<V, R>(rt, run),
+            Workload::TreeGetHit => tree::get_hit::<V, R>(rt, run),
+            Workload::TreeGetMiss => tree::get_miss::<V, R>(rt, run),
+            Workload::TreeWalk => tree::walk::<V, R>(rt, run),
+            Workload::TreeSeekUp => tree::seek_up::<V, R>(rt, run),
+            Workload::TreeSeekDown => tree::seek_down::<V, R>(rt, run),
+            Workload::TreeRemove => tree::remove::<V, R>(rt, run),
+            Workload::TableSeal => table::seal_tree::<V, R>(rt, run),
+            Workload::TableMerge2Disjoint => table::merge_tables::<V, R>(
+                rt,
+                run,
+                2,
+                Keys::Disjoint,
+            ),
+            Workload::TableMerge2Interleaved => table::merge_tables::<V, R>(
+                rt,
+                run,
+                2,
+                Keys::Interleaved,
+            ),
+            Workload::TableMerge2HalfShared => table::merge_tables::<V, R>(
+                rt,
+                run,
+                2,
+                Keys::HalfShared,
+            ),
+            Workload::TableMerge4Disjoint => table::merge_tables::<V, R>(
+                rt,
+                run,
+                4,
+                Keys::Disjoint,
+            ),
+            Workload::TableMerge4Interleaved => table::merge_tables::<V, R>(
+                rt,
+                run,
+                4,
+                Keys::Interleaved,
+            ),
+            Workload::TableMerge4HalfShared => table::merge_tables::<V, R>(
+                rt,
+                run,
+                4,
+                Keys::HalfShared,
+            ),
+            Workload::TableFindHit => table::find::<V, R>(rt, run, Wanted::Hit),
+            Workload::TableFindMissInside => table::find::<V, R>(rt, run, Wanted::MissInside),
+            Workload::TableFindMissOutside => table::find::<V, R>(rt, run, Wanted::MissOutside),
+            Workload::TableSeekUp => table::seek_up::<V, R>(rt, run),
+            Workload::TableSeekDown => table::seek_down::<V, R>(rt, run),
+        }
+    }
+}
+
+/// The values that a workload stores.
+#[derive(Clone, Copy)]
+pub(crate) enum ValueSize {
+    /// No bytes.
+    None,
+    /// 16 bytes.
+    Small,
+    /// 160 bytes.
+    Large,
+}
+
+impl ValueSize {
+    /// The values of so many bytes.
+    fn of_bytes(bytes: &str) -> Option<ValueSize> {
+        match bytes {
+            "0" => Some(ValueSize::None),
+            "16" => Some(ValueSize::Small),
+            "160" => Some(ValueSize::Large),
+            _ => None,
+        }
+    }
+}
+
+/// What the program's words ask for, if they are right.
+pub(crate) fn ask(
+    name: &str,
+    count: Option<String>,
+    seed: Option<String>,
+    value_size: Option<String>,
+) -> Option<(Workload, Run, ValueSize)> {
+    let workload = Workload::named(name)?;
+    let run = Run {
+        count: count?.parse().ok()?,
+        seed: seed?.parse().ok()?,
+    };
+    let size = ValueSize::of_bytes(&value_size?)?;
+    Some((workload, run, size))
+}
