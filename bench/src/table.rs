@@ -76,13 +76,8 @@ pub fn seek_up<V: Payload>(run: Run) -> Measured {
         for _ in 0..SEEKS {
             let key = spread_key(generator.number() % (2 * run.count));
             let from = table.keys.partition_point(|other| *other < key);
-            for (key, entry) in table.keys[from..]
-                .iter()
-                .zip(&table.entries[from..])
-                .take(STEPS)
-            {
-                sum = mixed(sum, row_number(key, entry.as_ref()));
-            }
+            let rows = table.keys[from..].iter().zip(&table.entries[from..]);
+            sum = sum_of(sum, rows.take(STEPS));
         }
         sum
     })
@@ -96,14 +91,8 @@ pub fn seek_down<V: Payload>(run: Run) -> Measured {
         for _ in 0..SEEKS {
             let key = spread_key(generator.number() % (2 * run.count));
             let to = table.keys.partition_point(|other| *other <= key);
-            for (key, entry) in table.keys[..to]
-                .iter()
-                .zip(&table.entries[..to])
-                .rev()
-                .take(STEPS)
-            {
-                sum = mixed(sum, row_number(key, entry.as_ref()));
-            }
+            let rows = table.keys[..to].iter().zip(&table.entries[..to]).rev();
+            sum = sum_of(sum, rows.take(STEPS));
         }
         sum
     })
@@ -213,12 +202,19 @@ fn find_all<V: Payload>(table: &Table<V>, run: Run, wanted: impl Fn(u64) -> u64)
     })
 }
 
+/// A sum that goes on over these rows.
+fn sum_of<'a, V: Payload + 'a>(
+    sum: u64,
+    rows: impl Iterator<Item = (&'a Key, &'a Option<V>)>,
+) -> u64 {
+    rows.fold(sum, |sum, (key, entry)| {
+        mixed(sum, row_number(key, entry.as_ref()))
+    })
+}
+
 /// What was measured, with every row of the table in its checksum.
 fn with_rows<V: Payload>(measured: Measured, table: &Table<V>) -> Measured {
-    let mut sum = 0;
-    for (key, entry) in table.keys.iter().zip(&table.entries) {
-        sum = mixed(sum, row_number(key, entry.as_ref()));
-    }
+    let sum = sum_of(0, table.keys.iter().zip(&table.entries));
     Measured {
         checksum: mixed(measured.checksum, sum),
         nanoseconds: measured.nanoseconds,
