@@ -23,6 +23,7 @@ impl<K: Copy + Ord, V: Copy, A: Allocator> Node<K, V, A> {
         ensures level { KeepsLevel self.old self.new }
         ensures filled { (edge : Bool) → IsFilled edge (fill_of self.old) → IsFilled edge (fill_of self.new) }
     {
+        // The proof needs the node's invariant, which is known where a field is used.
         let _ = &self.is_branch;
         match self.find_row(key) {
             Ok(at) => {

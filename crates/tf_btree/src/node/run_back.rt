@@ -12,9 +12,7 @@ use crate::search::{count_below, count_upto};
 use std::alloc::Allocator;
 use std::ops::Bound;
 
-/// How many keys lie within `end`, in a run that rises.
-///
-/// It takes a number of steps that grows with the logarithm of the run.
+/// How many keys lie within `end`, in a run that rises. It goes down from the end of the run, a key at a time.
 fn count_within<K: Copy + Ord>(keys: &[K], end: Bound<K>) -> usize
     ensures within { result ≤ length keys.now }
     ensures before { (d : K) → 0 < result → is_within K.cmp end (slice_index_or keys.now (result - 1) d) ≡ true }
