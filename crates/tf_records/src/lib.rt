@@ -7,6 +7,7 @@
 mod account;
 mod account_balance;
 mod account_filter;
+mod laws;
 mod limits;
 mod little_endian;
 mod outcome;
@@ -21,6 +22,10 @@ mod transfer;
 pub use account::Account;
 pub use account_balance::AccountBalance;
 pub use account_filter::AccountFilter;
+pub use laws::{
+    account_flags_are_these, filter_flags_are_these, limits_are_these, record_sizes_are_these,
+    transfer_flags_are_these,
+};
 pub use limits::{AMOUNT_MAX, BATCH_MAX, ID_MAX, TIMESTAMP_MAX};
 pub use outcome::Outcome;
 pub use query_filter::QueryFilter;

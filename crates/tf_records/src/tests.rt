@@ -5,7 +5,8 @@ mod names;
 
 use crate::{
     AMOUNT_MAX, Account, AccountFilter, BATCH_MAX, Failure, ID_MAX, Outcome, QueryFilter, Refusal,
-    Reply, Sums, TIMESTAMP_MAX, Transfer,
+    Reply, Sums, TIMESTAMP_MAX, Transfer, account_flags_are_these, filter_flags_are_these,
+    limits_are_these, record_sizes_are_these, transfer_flags_are_these,
 };
 use std::alloc::{AllocError, AllocFailed};
 use std::test::Fail;
@@ -31,6 +32,9 @@ fn flags_stand_at_their_bits(rt: HostRuntime) {
     assert_eq!(rt; AccountFilter::CREDITS, 1 << 1);
     assert_eq!(rt; AccountFilter::REVERSED, 1 << 2);
     assert_eq!(rt; QueryFilter::REVERSED, 1 << 0);
+    account_flags_are_these();
+    transfer_flags_are_these();
+    filter_flags_are_these();
 }
 
 #[test]
@@ -42,6 +46,8 @@ fn limits_are_the_references(rt: HostRuntime) {
     );
     assert_eq!(rt; ID_MAX, 340_282_366_920_938_463_463_374_607_431_768_211_455);
     assert_eq!(rt; BATCH_MAX, 8190);
+    limits_are_these();
+    record_sizes_are_these();
 }
 
 #[test]
