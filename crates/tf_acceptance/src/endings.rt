@@ -115,6 +115,7 @@ fn writer_that_fails_ends_the_run(rt: HostRuntime) {
             Ok(()) => assert!(rt; false, "room for {room}"),
             Err(fault) => assert_reported(&rt, &Ending::Fault(fault), "cannot write\n", 1),
         }
+        assert!(rt; out.taken.as_slice() == &ANSWER.as_bytes()[..room]);
     }
     let mut out = Narrow {
         taken: Vec::new(rt.alloc()),

@@ -1,17 +1,48 @@
-//! Worked scripts print what they should.
+//! Scripts that run to their end, and scripts with a fault.
 
-use crate::rows::ROWS;
+use crate::rows::Row;
+use crate::rows::batches::BATCHES;
+use crate::rows::clients::CLIENTS;
+use crate::rows::pending::PENDING;
+use crate::rows::queries::QUERIES;
+use crate::rows::recipes::RECIPES;
+use std::process::Abort;
 use std::test::Fail;
 use tf_main::{RunFault, run_script};
 
-#[test]
-fn worked_scripts_print_their_output(rt: HostRuntime) -> Result<(), Fail> {
-    for row in &ROWS {
+/// Runs each script over an empty ledger and compares what it writes.
+fn assert_answered(rt: &(impl Abort + AllocGlobal), rows: &[Row]) -> Result<(), Fail> {
+    for row in rows {
         let mut out = Vec::new(rt.alloc());
         run_script(rt.alloc(), row.script.as_bytes(), &mut out)?;
         assert!(rt; out.as_slice() == row.output.as_bytes(), "{}", row.name);
     }
     Ok(())
+}
+
+#[test]
+fn batches_print_their_output(rt: HostRuntime) -> Result<(), Fail> {
+    assert_answered(&rt, &BATCHES)
+}
+
+#[test]
+fn two_phase_scripts_print_their_output(rt: HostRuntime) -> Result<(), Fail> {
+    assert_answered(&rt, &PENDING)
+}
+
+#[test]
+fn queries_print_their_output(rt: HostRuntime) -> Result<(), Fail> {
+    assert_answered(&rt, &QUERIES)
+}
+
+#[test]
+fn clients_print_their_output(rt: HostRuntime) -> Result<(), Fail> {
+    assert_answered(&rt, &CLIENTS)
+}
+
+#[test]
+fn recipes_print_their_output(rt: HostRuntime) -> Result<(), Fail> {
+    assert_answered(&rt, &RECIPES)
 }
 
 #[test]
@@ -29,6 +60,21 @@ fn small_scripts_print_their_output(rt: HostRuntime) {
         ),
         (
             "get_account_transfers account_id=1 limit=0 flags=debits\n",
+            "rows 0\n",
+        ),
+        ("pulse 7 max\n", "expired 0\nclock 7\n"),
+        ("pulse max 0\n", "refused clock_exhausted\n"),
+        ("publish\ncompact\n", "published\ncompacted\n"),
+        (
+            "lookup_accounts\nlookup_transfers 1 2\n",
+            "rows 0\nrows 0\n",
+        ),
+        (
+            "query_accounts\nquery_transfers limit=1\n",
+            "rows 0\nrows 0\n",
+        ),
+        (
+            "get_account_balances account_id=1 limit=1 flags=credits\n",
             "rows 0\n",
         ),
     ];
@@ -50,6 +96,13 @@ fn a_script_with_a_fault_runs_nothing(rt: HostRuntime) {
         ("accounts 10\nend\n  accounts ten\n", 3, 12),
         ("accounts 1000\nend\nget_account_transfers limit=x\n", 3, 23),
         ("accounts 1000\nend\naccounts\n", 3, 9),
+        ("pulse x 1\n", 1, 7),
+        ("pulse 1\n", 1, 8),
+        ("publish now\n", 1, 9),
+        ("transfers 0\nraw 00\nend\n", 2, 5),
+        ("query_transfers raw\n", 1, 20),
+        ("lookup_accounts 1 raw\n", 1, 19),
+        ("accounts 0\nend\nend\n", 3, 1),
     ];
     for (script, at_line, at_column) in scripts {
         let mut out = Vec::new(rt.alloc());

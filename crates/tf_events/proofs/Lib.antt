@@ -1,1 +1,6 @@
-pub mod BatchLemmas
+pub mod Stored
+pub mod Cuts
+pub mod Chained
+pub mod Left
+pub mod Judged
+pub mod Paired

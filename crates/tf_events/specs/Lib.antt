@@ -1,2 +1,5 @@
-pub mod Batch
 pub mod Chain
+pub mod Batch
+pub mod Walk
+pub mod Moving
+pub mod Keeping

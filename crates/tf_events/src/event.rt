@@ -1,74 +1,110 @@
 //! What accounts and transfers have in common as events of a batch.
 
-ghost use Rattle.std.specs.Prelude.{◌≡◌, ◌++◌, ◌∷◌, [], ℕ, List, OnOk, OnErr, IfErr};
-ghost use Rattle.tf_records.specs.declared.outcome.Outcome.TheVariants as outcome;
-ghost use Rattle.tf_journal.specs.declared.entry.Entry.{Entry};
-ghost use Rattle.tf_journal.specs.Journal.{IsJournal, timestamp_of};
-ghost use Rattle.tf_journal.specs.Lawful.{IsAdmitted};
+ghost use Rattle.std.specs.Prelude.{◌≡◌, ℕ, List, IfOk, IfErr};
+ghost use Rattle.std.specs.Option.{option_to_list};
+ghost use Rattle.tf_journal.specs.Journal.{IsJournal};
+ghost use Rattle.tf_journal.specs.Verdict.{is_transient};
 ghost use Rattle.tf_events.specs.Chain.{Kind, accounts, transfers};
+ghost use Rattle.tf_events.specs.Walk.{IsAccepted, IsRefused, KeepsEvents};
 
-use crate::{verdict_account, verdict_transfer};
-use tf_journal::Ledger;
-use tf_records::{Account, Outcome, Refusal, Transfer};
+use crate::account::{stored_account, verdict_account};
+use crate::fits::{fitting_account, fitting_transfer};
+use crate::transfer::judge_transfer;
+use tf_journal::{Entry, Ledger};
+use tf_records::{Account, Outcome, Transfer};
 
-/// An event of a batch: how it is judged, and how it is stored.
+/// An event of a batch: how it is judged, and as which entry it is stored.
 pub trait Event: Copy {
     /// Its kind, as the definitions see it.
     ghost kind: { Kind Self };
 
-    /// The verdict on this event, judged at this timestamp. Takes no memory.
-    fn verdict<L: Ledger>(&self, ledger: &L, timestamp: u64) -> Outcome
-        ensures { result ≡ kind.verdict (L.journal ledger.now) timestamp self.now };
+    /// Whether this event stands or falls with the next one. Takes no memory.
+    fn is_linked(&self) -> bool
+        ensures { result ≡ kind.linked self.now };
 
-    /// Stores this event, which is accepted, with its timestamp. [`Refusal::NoMemory`] leaves all as it was.
-    fn store<L: Ledger>(&self, ledger: &mut L, timestamp: u64) -> Result<(), Refusal>
-        requires accepted { kind.verdict (L.journal ledger.old) timestamp self.now ≡ Outcome.Ok }
-        requires rising { IsJournal (L.journal ledger.old ++ kind.entry (L.journal ledger.old) timestamp self.now ∷ []) }
-        ensures ok { OnOk result (L.journal ledger.new ≡ L.journal ledger.old ++ kind.entry (L.journal ledger.old) timestamp self.now ∷ []) }
-        ensures err { OnErr result (L.journal ledger.new ≡ L.journal ledger.old) }
-        ensures refusal { IfErr result (λ e. e ≡ Refusal.NoMemory) }
-        ensures clock_kept { L.clock ledger.new ≡ L.clock ledger.old }
-        ensures length_kept { L.kept ledger.new ≡ L.kept ledger.old };
+    /// The entry that this event is stored as, judged at this timestamp; else why it isn't ok. Takes no memory.
+    fn judge<L: Ledger>(&self, ledger: &L, timestamp: u64) -> Result<Entry, Outcome>
+        requires { IsJournal (L.journal ledger.now) }
+        ensures ok { IfOk result (IsAccepted kind (L.journal ledger.now) timestamp self.now) }
+        ensures err { IfErr result (IsRefused kind (L.journal ledger.now) timestamp self.now) };
 
-    /// An event is stored with its timestamp.
-    ghost keeps_timestamp: { (journal : List Entry) (timestamp : ℕ) (event : Self) → timestamp_of (kind.entry journal timestamp event) ≡ timestamp };
+    /// The entry that a failure of this event leaves, if it leaves one. Takes no memory.
+    fn left_by(&self, timestamp: u64, outcome: Outcome) -> Option<Entry>
+        ensures { option_to_list result ≡ kind.left_by timestamp self.now outcome };
 
-    /// An accepted event is stored as an entry that the journal admits.
-    ghost is_admitted: { (journal : List Entry) (timestamp : ℕ) (event : Self) → kind.verdict journal timestamp event ≡ outcome.Ok → IsAdmitted journal (kind.entry journal timestamp event) };
+    /// What entries keep of their events.
+    ghost keeps: { KeepsEvents kind };
 }
 
 impl Event for Account {
-    ghost use Rattle.std.specs.Prelude.{refl};
+    ghost use Rattle.tf_events.specs.Keeping.{accounts_keep};
 
     ghost kind = { accounts };
 
-    ghost keeps_timestamp = { λ journal timestamp event. refl };
-
-    ghost is_admitted = { λ journal timestamp event accepted. record { event = event; accepted = accepted; stored = refl } };
-
-    fn verdict<L: Ledger>(&self, ledger: &L, timestamp: u64) -> Outcome {
-        verdict_account(ledger, timestamp, self)
+    fn is_linked(&self) -> bool {
+        self.flags & Account::LINKED != 0
     }
 
-    fn store<L: Ledger>(&self, ledger: &mut L, timestamp: u64) -> Result<(), Refusal> {
-        ledger.add_account(Account { timestamp, ..*self })
+    fn judge<L: Ledger>(&self, ledger: &L, timestamp: u64) -> Result<Entry, Outcome> {
+        let event = fitting_account(*self);
+        let verdict = verdict_account(ledger, timestamp, &event);
+        if verdict == Outcome::Ok {
+            Ok(Entry::Account(stored_account(ledger, timestamp, &event)))
+        } else {
+            Err(verdict)
+        }
     }
+
+    fn left_by(&self, timestamp: u64, outcome: Outcome) -> Option<Entry> {
+        None
+    }
+
+    ghost keeps = { accounts_keep };
 }
 
 impl Event for Transfer {
-    ghost use Rattle.std.specs.Prelude.{refl};
+    ghost use Rattle.tf_events.specs.Keeping.{transfers_keep};
 
     ghost kind = { transfers };
 
-    ghost keeps_timestamp = { λ journal timestamp event. refl };
-
-    ghost is_admitted = { λ journal timestamp event accepted. record { event = event; accepted = accepted; stored = refl } };
-
-    fn verdict<L: Ledger>(&self, ledger: &L, timestamp: u64) -> Outcome {
-        verdict_transfer(ledger, timestamp, self)
+    fn is_linked(&self) -> bool {
+        self.flags & Transfer::LINKED != 0
     }
 
-    fn store<L: Ledger>(&self, ledger: &mut L, timestamp: u64) -> Result<(), Refusal> {
-        ledger.add_transfer(Transfer { timestamp, ..*self })
+    fn judge<L: Ledger>(&self, ledger: &L, timestamp: u64) -> Result<Entry, Outcome> {
+        let event = fitting_transfer(*self);
+        match judge_transfer(ledger, timestamp, &event) {
+            Ok(transfer) => Ok(Entry::Transfer(transfer)),
+            Err(verdict) => Err(verdict),
+        }
     }
+
+    fn left_by(&self, timestamp: u64, outcome: Outcome) -> Option<Entry> {
+        if is_passing(outcome) {
+            Some(Entry::Failed {
+                timestamp,
+                id: self.id,
+            })
+        } else {
+            None
+        }
+    }
+
+    ghost keeps = { transfers_keep };
+}
+
+/// Whether a failure may pass, so that the id of the transfer that had it stays failed.
+fn is_passing(outcome: Outcome) -> bool
+    ensures { result ≡ is_transient outcome }
+{
+    matches!(
+        outcome,
+        Outcome::DebitAccountNotFound
+            | Outcome::CreditAccountNotFound
+            | Outcome::PendingTransferNotFound
+            | Outcome::ExceedsCredits
+            | Outcome::ExceedsDebits
+            | Outcome::DebitAccountAlreadyClosed
+            | Outcome::CreditAccountAlreadyClosed
+    )
 }

@@ -1,15 +1,22 @@
 //! Batches of events, judged and stored over any ledger.
 //!
-//! A batch gets its timestamps, each event is judged after those before it, and an accepted one is
-//! stored. What a batch leaves and answers is `batch_step` of `specs/Batch.antt`, whatever keeps the
-//! journal.
+//! A batch gets its timestamps and is cut into chains. Each event is judged after what is stored and the
+//! events before it in its chain; a chain is stored as a whole, or not at all. What a batch leaves and
+//! answers is `batch_step` of `specs/Batch.antt`, whatever keeps the journal.
 #![tactic(auto)]
 
+mod account;
 mod batch;
+mod chain;
+mod cut;
 mod event;
+mod fits;
+mod moving;
+mod own_fault;
 #[cfg(test)]
 mod tests;
-mod verdict;
+mod transfer;
 
+pub use account::{stored_account, verdict_account};
 pub use batch::{run_accounts, run_transfers};
-pub use verdict::{verdict_account, verdict_transfer};
+pub use transfer::{stored_transfer, verdict_transfer};

@@ -2,9 +2,22 @@
 //! definitions judge as the reference does.
 
 mod batches;
-mod verdicts;
+mod chains;
+mod sizes;
+mod tables;
 
-use tf_records::{Account, Transfer};
+ghost use Rattle.tf_journal.specs.Lawful.{IsLawfulAt};
+
+use std::alloc::Allocator;
+use tf_journal::PlainLedger;
+use tf_records::{Account, Failure, Outcome, Transfer};
+
+/// An empty ledger.
+pub fn empty<A: Allocator>(alloc: A) -> PlainLedger<A>
+    ensures { IsLawfulAt (⟦<PlainLedger<A> as tf_journal::Ledger>⟧.clock result) (⟦<PlainLedger<A> as tf_journal::Ledger>⟧.journal result) }
+{
+    PlainLedger::new(alloc)
+}
 
 /// An account event of ledger 1.
 pub fn account(id: u128) -> Account {
@@ -42,4 +55,40 @@ pub fn transfer(id: u128, amount: u128) -> Transfer {
         flags: 0,
         timestamp: 0,
     }
+}
+
+/// The same event, linked with the next one.
+pub fn linked(event: Transfer) -> Transfer {
+    Transfer {
+        flags: event.flags | Transfer::LINKED,
+        ..event
+    }
+}
+
+/// A pending transfer from account 1 to account 2.
+pub fn pending(id: u128, amount: u128) -> Transfer {
+    Transfer {
+        flags: Transfer::PENDING,
+        ..transfer(id, amount)
+    }
+}
+
+/// A post of a pending transfer, of the whole amount.
+pub fn post(id: u128, pending_id: u128) -> Transfer {
+    Transfer {
+        id,
+        debit_account_id: 0,
+        credit_account_id: 0,
+        amount: u128::MAX,
+        pending_id,
+        ledger: 0,
+        code: 0,
+        flags: Transfer::POST_PENDING_TRANSFER,
+        ..transfer(id, 0)
+    }
+}
+
+/// A failed event.
+pub fn failure(index: u32, outcome: Outcome) -> Failure {
+    Failure { index, outcome }
 }

@@ -1,37 +1,58 @@
 -- The balances of an account: sums over the whole journal.
-use Rattle.std.specs.Prelude.{ℕ, ◌+◌, ◌-◌, ◌^◌, ◌≤◌, ◌==◌, List, if◌then◌else◌}
+use Rattle.std.specs.Prelude.{ℕ, ◌-◌, ◌^◌, ◌==◌, List, ◌&&◌, if◌then◌else◌}
 use Rattle.std.specs.List.{sum_by}
 use Rattle.tf_records.specs.declared.sums.Sums.{Sums}
-use Rattle.tf_records.specs.declared.limits.TheConstants.{AMOUNT_MAX}
+use Rattle.tf_records.specs.declared.transfer.Transfer.{Transfer}
 use Rattle.tf_journal.specs.declared.entry.Entry.{Entry}
 use Rattle.tf_journal.specs.declared.entry.Entry.TheVariants as entry
+use Rattle.tf_journal.specs.declared.side.Side.{Side}
+use Rattle.tf_journal.specs.declared.side.Side.TheVariants.{Debit, Credit}
+use Rattle.tf_journal.specs.Flags.{is_pending, is_void}
+use Rattle.tf_journal.specs.Status.{is_open}
 
--- what an entry posts to the debits of the account with this id
-abbrev pub posted_debit : ℕ → Entry → ℕ
-posted_debit id (entry.Account account) = 0
-posted_debit id (entry.Transfer transfer) = if transfer.debit_account_id == id then transfer.amount else 0
+-- the greatest amount, and the greatest sum of amounts
+abbrev pub greatest_amount : ℕ
+greatest_amount = 2 ^ 128 - 1
 
--- what an entry posts to the credits of the account with this id
-abbrev pub posted_credit : ℕ → Entry → ℕ
-posted_credit id (entry.Account account) = 0
-posted_credit id (entry.Transfer transfer) = if transfer.credit_account_id == id then transfer.amount else 0
+-- the account that a transfer has on a side
+abbrev pub account_on : Side → Transfer → ℕ
+account_on Debit transfer = transfer.debit_account_id
+account_on Credit transfer = transfer.credit_account_id
 
-abbrev pub debits_posted : List Entry → ℕ → ℕ
-debits_posted journal id = sum_by (posted_debit id) journal
+-- what a transfer posts: its amount, unless it is pending or a void
+abbrev pub posted_amount : Transfer → ℕ
+posted_amount transfer = if is_pending transfer then 0 else if is_void transfer then 0 else transfer.amount
 
-abbrev pub credits_posted : List Entry → ℕ → ℕ
-credits_posted journal id = sum_by (posted_credit id) journal
+-- what a transfer sets aside after a journal: its amount, while it is pending and open
+abbrev pub pending_amount : List Entry → Transfer → ℕ
+pending_amount journal transfer =
+    if is_pending transfer && is_open journal transfer then transfer.amount else 0
 
--- the four balances of an account after a journal. No transfer is pending yet
+-- what an entry posts to a side of the account with this id
+abbrev pub posted_by : Side → ℕ → Entry → ℕ
+posted_by side id (entry.Transfer transfer) =
+    if account_on side transfer == id then posted_amount transfer else 0
+posted_by side id _ = 0
+
+-- what an entry sets aside, after a journal, on a side of the account with this id
+abbrev pub pending_by : List Entry → Side → ℕ → Entry → ℕ
+pending_by journal side id (entry.Transfer transfer) =
+    if account_on side transfer == id then pending_amount journal transfer else 0
+pending_by journal side id _ = 0
+
+-- what is posted to a side of an account
+abbrev pub posted_on : List Entry → Side → ℕ → ℕ
+posted_on journal side id = sum_by (posted_by side id) journal
+
+-- what is pending on a side of an account
+abbrev pub pending_on : List Entry → Side → ℕ → ℕ
+pending_on journal side id = sum_by (pending_by journal side id) journal
+
+-- the four balances of an account after a journal
 abbrev pub balances_of : List Entry → ℕ → Sums
 balances_of journal id = record {
-  debits_pending = 0;
-  debits_posted = debits_posted journal id;
-  credits_pending = 0;
-  credits_posted = credits_posted journal id;
+  debits_pending = pending_on journal Debit id;
+  debits_posted = posted_on journal Debit id;
+  credits_pending = pending_on journal Credit id;
+  credits_posted = posted_on journal Credit id;
 }
-
--- on each side of each account, pending and posted together are at most the greatest amount
-pub record IsWithinLimits (journal : List Entry) : Type 0 where
-  pub debits : (id : ℕ) → (balances_of journal id).debits_pending + (balances_of journal id).debits_posted ≤ AMOUNT_MAX
-  pub credits : (id : ℕ) → (balances_of journal id).credits_pending + (balances_of journal id).credits_posted ≤ AMOUNT_MAX

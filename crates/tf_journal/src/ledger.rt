@@ -1,12 +1,15 @@
 //! The calls by which a journal is read and grows, whatever keeps it.
 
-ghost use Rattle.std.specs.Prelude.{◌≡◌, ◌≤◌, ◌++◌, ◌∷◌, [], List, ℕ, length, take, OnOk, OnErr, IfErr};
+ghost use Rattle.std.specs.Prelude.{◌≡◌, ◌≤◌, ◌++◌, ◌∷◌, [], List, ℕ, length, min, take, OnOk, OnErr, IfErr};
 ghost use Rattle.tf_journal.specs.declared.entry.Entry.{Entry};
-ghost use Rattle.tf_journal.specs.Journal.{IsJournal, IsUpTo};
+ghost use Rattle.tf_journal.specs.Due.{due, next_due_of};
+ghost use Rattle.tf_journal.specs.Journal.{IsJournal, IsUpTo, is_failed};
 ghost use Rattle.tf_journal.specs.Lawful.{IsAdmitted};
-ghost use Rattle.tf_journal.specs.Lookup.{account_of, transfer_of};
+ghost use Rattle.tf_journal.specs.Ledger.{CanGrow, IsAddition};
+ghost use Rattle.tf_journal.specs.Lookup.{account_of, id_use_of, transfer_of};
+ghost use Rattle.tf_journal.specs.Status.{status_at};
 
-use crate::Entry;
+use crate::{Entry, IdUse, Status};
 use tf_records::{Account, Refusal, TIMESTAMP_MAX, Transfer};
 
 /// A length of a journal, to which it can be cut back.
@@ -19,7 +22,7 @@ pub struct Mark {
 /// A journal, a clock and a kept length, in some representation.
 ///
 /// Entries are added one by one and can be undone, last first, back to what was last kept. The clock
-/// is the last timestamp that was given out, 0 at first.
+/// is the last timestamp that was given out, 0 at first. Times are nanoseconds.
 pub trait Ledger {
     /// The entries, by rising timestamp.
     ghost journal: { Self → List Entry };
@@ -34,7 +37,7 @@ pub trait Ledger {
     fn clock(&self) -> u64
         ensures { result ≡ clock self.now };
 
-    /// The account with this id, its four sums filled in. Takes no memory.
+    /// The account with this id, its four sums filled in, and marked as closed where it is. Takes no memory.
     fn account(&self, id: u128) -> Option<Account>
         ensures { result ≡ account_of (journal self.now) id };
 
@@ -42,29 +45,53 @@ pub trait Ledger {
     fn transfer(&self, id: u128) -> Option<Transfer>
         ensures { result ≡ transfer_of (journal self.now) id };
 
+    /// Whether a transfer with this id failed for a passing reason. Takes no memory.
+    fn failed(&self, id: u128) -> bool
+        ensures { result ≡ is_failed (journal self.now) id };
+
+    /// What a transfer id is used for: `transfer` and `failed` in one look-up. Takes no memory.
+    fn id_use(&self, id: u128) -> IdUse
+        ensures { result ≡ id_use_of (journal self.now) id };
+
+    /// The status of the pending transfer with this timestamp. Takes no memory.
+    fn status(&self, pending: u64) -> Option<Status>
+        ensures { result ≡ status_at (journal self.now) pending };
+
+    /// The next pending transfer to expire: of those that are open, have a timeout and whose time is over at
+    /// this moment, the one that expires first; of equal ones, the one stored first. Takes no memory.
+    fn next_due(&self, at: u64) -> Option<Transfer>
+        ensures { result ≡ next_due_of (journal self.now) at };
+
+    /// How many transfers are due at this moment, as `next_due` has it, counted up to `most`. Takes no memory.
+    fn due_count(&self, at: u64, most: u32) -> u32
+        ensures { result ≡ min most (length (due (journal self.now) at)) };
+
     /// Stores an account, which the journal admits. [`Refusal::NoMemory`] leaves all as it was.
     fn add_account(&mut self, account: Account) -> Result<(), Refusal>
-        requires rising { IsJournal (journal self.old ++ Entry.Account account ∷ []) }
-        requires admitted { IsAdmitted (journal self.old) (Entry.Account account) }
-        ensures ok { OnOk result (journal self.new ≡ journal self.old ++ Entry.Account account ∷ []) }
-        ensures err { OnErr result (journal self.new ≡ journal self.old) }
-        ensures refusal { IfErr result (λ e. e ≡ Refusal.NoMemory) }
-        ensures clock_kept { clock self.new ≡ clock self.old }
-        ensures length_kept { kept self.new ≡ kept self.old };
+        requires { CanGrow (journal self.old) (Entry.Account account) }
+        ensures { IsAddition journal clock kept self.old self.new (Entry.Account account) result };
 
     /// Stores a transfer, which the journal admits. [`Refusal::NoMemory`] leaves all as it was.
     fn add_transfer(&mut self, transfer: Transfer) -> Result<(), Refusal>
-        requires rising { IsJournal (journal self.old ++ Entry.Transfer transfer ∷ []) }
-        requires admitted { IsAdmitted (journal self.old) (Entry.Transfer transfer) }
-        ensures ok { OnOk result (journal self.new ≡ journal self.old ++ Entry.Transfer transfer ∷ []) }
-        ensures err { OnErr result (journal self.new ≡ journal self.old) }
-        ensures refusal { IfErr result (λ e. e ≡ Refusal.NoMemory) }
-        ensures clock_kept { clock self.new ≡ clock self.old }
-        ensures length_kept { kept self.new ≡ kept self.old };
+        requires { CanGrow (journal self.old) (Entry.Transfer transfer) }
+        ensures { IsAddition journal clock kept self.old self.new (Entry.Transfer transfer) result };
 
-    /// The present length of the journal. Takes no memory.
+    /// Stores that the time of a pending transfer, named by its timestamp, is over: it is the next that is due
+    /// just before this timestamp. [`Refusal::NoMemory`] leaves all as it was.
+    fn add_expiry(&mut self, timestamp: u64, pending: u64) -> Result<(), Refusal>
+        requires { CanGrow (journal self.old) (Entry.Expiry timestamp pending) }
+        ensures { IsAddition journal clock kept self.old self.new (Entry.Expiry timestamp pending) result };
+
+    /// Stores that a transfer with this id failed for a passing reason. No transfer has the id, and it hasn't
+    /// failed before. [`Refusal::NoMemory`] leaves all as it was.
+    fn add_failed(&mut self, timestamp: u64, id: u128) -> Result<(), Refusal>
+        requires { CanGrow (journal self.old) (Entry.Failed timestamp id) }
+        ensures { IsAddition journal clock kept self.old self.new (Entry.Failed timestamp id) result };
+
+    /// The present length of the journal, which isn't below what was last kept. Takes no memory.
     fn mark(&self) -> Mark
-        ensures { result.length ≡ length (journal self.now) };
+        ensures present { result.length ≡ length (journal self.now) }
+        ensures not_kept { kept self.now ≤ result.length };
 
     /// Cuts the journal back to a mark that isn't below what was last kept. Takes no memory.
     fn undo(&mut self, to: Mark)
@@ -81,7 +108,4 @@ pub trait Ledger {
         ensures same { journal self.new ≡ journal self.old }
         ensures clock { clock self.new ≡ moment }
         ensures all_kept { kept self.new ≡ length (journal self.old) };
-
-    /// What stands for good is there.
-    ghost kept_is_present: { (ledger : Self) → kept ledger ≤ length (journal ledger) };
 }

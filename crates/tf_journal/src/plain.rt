@@ -1,26 +1,31 @@
 //! A ledger that keeps its journal as a list.
 
-ghost use Rattle.std.specs.Prelude.{◌≡◌, ◌≤◌, [], ℕ, take, length, vec_len};
-ghost use Rattle.tf_journal.specs.Balances.{IsWithinLimits};
-ghost use Rattle.tf_journal.specs.Balances.{balances_of};
+ghost use Rattle.std.specs.Prelude.{◌≡◌, ◌≤◌, ◌++◌, ◌∷◌, [], length, OnErr, OnOk, IfErr};
+ghost use Rattle.tf_journal.specs.Lawful.{IsSound};
 
-use crate::walk::{find_account, find_transfer, sum_credits, sum_debits};
-use crate::{Entry, Ledger, Mark};
+use crate::balances::show;
+use crate::expiry::{count_due, next_due};
+use crate::walk::{find_account, find_pending, find_transfer, has_failed, status};
+use crate::{Entry, IdUse, Ledger, Mark, Status};
 use std::alloc::Allocator;
-use tf_records::{Account, Refusal, Sums, Transfer};
+use tf_records::{Account, Refusal, Transfer};
 
 /// The plain ledger: the list of its entries and nothing else. Each look-up and each sum walks over
-/// the whole list, so a call takes time in proportion to its length; `clock`, `mark` and `keep` take none.
+/// the whole list, so a call takes time in proportion to its length, times the number of posts, voids and
+/// expiries for an account's balances; `clock`, `mark` and `keep` take none.
 #[derive(Drop)]
 pub struct PlainLedger<A: Allocator> {
     entries: Vec<Entry, A>,
     clock: u64,
     kept: usize,
     ghost kept_is_present: { kept ≤ length entries.items },
-    ghost within_limits: { (n : ℕ) → IsWithinLimits (take n entries.items) },
+    ghost sound: { ∥ IsSound entries.items ∥₁ },
 }
 
 impl<A: Allocator> PlainLedger<A> {
+    ghost use Rattle.tf_journal.specs.declared.entry.Entry.{Entry};
+    ghost use Rattle.tf_journal.specs.Ledger.{CanGrow, IsAddition};
+
     /// The empty ledger, at clock 0. Takes no memory.
     pub fn new(alloc: A) -> Self
         ensures journal { ⟦<PlainLedger<A> as Ledger>⟧.journal result ≡ [] }
@@ -36,20 +41,20 @@ impl<A: Allocator> PlainLedger<A> {
 
     /// The journal. Takes no memory.
     pub fn entries(&self) -> &[Entry]
-        ensures { result.now ≡ ⟦<PlainLedger<A> as Ledger>⟧.journal self.now }
+        ensures journal { result.now ≡ ⟦<PlainLedger<A> as Ledger>⟧.journal self.now }
+        ensures sound { ∥ IsSound result.now ∥₁ }
     {
         self.entries.as_slice()
     }
 
-    /// The balances of an account, by a walk over the list for each side.
-    fn balances(&self, id: u128) -> Sums
-        ensures { result ≡ balances_of self.now.entries.items id }
+    /// Puts an entry at the end of the list.
+    fn add(&mut self, entry: Entry) -> Result<(), Refusal>
+        requires { CanGrow self.old.entries.items entry }
+        ensures { IsAddition (λ l. l.entries.items) (λ l. l.clock) (λ l. l.kept) self.old self.new entry result }
     {
-        Sums {
-            debits_pending: 0,
-            debits_posted: sum_debits(self.entries.as_slice(), id),
-            credits_pending: 0,
-            credits_posted: sum_credits(self.entries.as_slice(), id),
+        match self.entries.push(entry) {
+            Ok(()) => Ok(()),
+            Err(_) => Err(Refusal::NoMemory),
         }
     }
 }
@@ -63,40 +68,63 @@ impl<A: Allocator> Ledger for PlainLedger<A> {
 
     ghost kept = { λ ledger. ledger.kept };
 
-    ghost kept_is_present = { λ ledger. ledger.kept_is_present };
-
     fn clock(&self) -> u64 {
         self.clock
     }
 
     fn account(&self, id: u128) -> Option<Account> {
         let stored = find_account(self.entries.as_slice(), id)?;
-        let sums = self.balances(id);
-        Some(Account {
-            debits_pending: sums.debits_pending,
-            debits_posted: sums.debits_posted,
-            credits_pending: sums.credits_pending,
-            credits_posted: sums.credits_posted,
-            ..stored
-        })
+        Some(show(self.entries.as_slice(), &stored))
     }
 
     fn transfer(&self, id: u128) -> Option<Transfer> {
         find_transfer(self.entries.as_slice(), id)
     }
 
-    fn add_account(&mut self, account: Account) -> Result<(), Refusal> {
-        match self.entries.push(Entry::Account(account)) {
-            Ok(()) => Ok(()),
-            Err(_) => Err(Refusal::NoMemory),
+    fn failed(&self, id: u128) -> bool {
+        has_failed(self.entries.as_slice(), id)
+    }
+
+    fn id_use(&self, id: u128) -> IdUse {
+        match find_transfer(self.entries.as_slice(), id) {
+            Some(transfer) => IdUse::Stored(transfer),
+            None => {
+                if has_failed(self.entries.as_slice(), id) {
+                    IdUse::Failed
+                } else {
+                    IdUse::Free
+                }
+            }
         }
     }
 
+    fn status(&self, pending: u64) -> Option<Status> {
+        let transfer = find_pending(self.entries.as_slice(), pending)?;
+        Some(status(self.entries.as_slice(), &transfer))
+    }
+
+    fn next_due(&self, at: u64) -> Option<Transfer> {
+        next_due(self.entries.as_slice(), at)
+    }
+
+    fn due_count(&self, at: u64, most: u32) -> u32 {
+        count_due(self.entries.as_slice(), at, most)
+    }
+
+    fn add_account(&mut self, account: Account) -> Result<(), Refusal> {
+        self.add(Entry::Account(account))
+    }
+
     fn add_transfer(&mut self, transfer: Transfer) -> Result<(), Refusal> {
-        match self.entries.push(Entry::Transfer(transfer)) {
-            Ok(()) => Ok(()),
-            Err(_) => Err(Refusal::NoMemory),
-        }
+        self.add(Entry::Transfer(transfer))
+    }
+
+    fn add_expiry(&mut self, timestamp: u64, pending: u64) -> Result<(), Refusal> {
+        self.add(Entry::Expiry { timestamp, pending })
+    }
+
+    fn add_failed(&mut self, timestamp: u64, id: u128) -> Result<(), Refusal> {
+        self.add(Entry::Failed { timestamp, id })
     }
 
     fn mark(&self) -> Mark {

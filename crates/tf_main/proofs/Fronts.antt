@@ -1,11 +1,19 @@
--- Fronts of bytes that were appended, and what follows them.
-use Rattle.std.proofs.Common.{◌≡◌, ℕ, List, [], ◌++◌, Option, None, Some, take, drop, ap, sym, ◌∙◌, append_assoc, append-nil, subst, refl, suc, ◌<◌, length, get_or, drop-cons}
-use Rattle.std.specs.Borrow.{Bor}
+-- Parts of bytes that were appended, and what follows them.
+use Rattle.std.proofs.Common.{◌≡◌, ◌≢◌, ℕ, List, [], ◌∷◌, ◌++◌, Option, None, Some, take, drop, ap, sym, ◌∙◌, append_assoc, append-nil, subst, refl, suc, ◌<◌, length, get_or, drop-cons, Result, Ok, Err}
+use Rattle.std.specs.List.{flat_map}
+use Rattle.std.specs.Result.{IsErr}
 use Rattle.std.proofs.lemmas.List.Concat.{flat_map-append}
 use Rattle.std.proofs.lemmas.List.{take-append-drop}
+use Rattle.std.proofs.lemmas.Result.{MatchResult-from_err, MatchResult-weaker}
 use Rattle.std.specs.Io.KnownBytes.{Appends, Keeps}
-use Rattle.tf_main.specs.Ending.{AppendsFront, joined}
-use Rattle.tf_main.proofs.Stops.{Appends-Keeps}
+use Rattle.tf_main.specs.Output.{AppendsFront, AppendsPart, Writes}
+
+-- what was appended before is all that was appended, where nothing was appended since
+pub Appends-Keeps : (old mid new : Option (List ℕ)) (bytes : List ℕ) → Appends old mid bytes → Keeps mid new → Appends old new bytes
+Appends-Keeps None mid new bytes appends keeps = tt
+Appends-Keeps (Some xs) None new bytes appends keeps = absurd appends
+Appends-Keeps (Some xs) (Some ys) None bytes appends keeps = absurd keeps
+Appends-Keeps (Some xs) (Some ys) (Some zs) bytes appends keeps = keeps ∙ appends
 
 -- bytes were appended, and then more
 pub Appends-Appends : (old mid new : Option (List ℕ)) (xs ys : List ℕ) → Appends old mid xs → Appends mid new ys → Appends old new (xs ++ ys)
@@ -14,20 +22,27 @@ Appends-Appends (Some us) None new xs ys p q = absurd p
 Appends-Appends (Some us) (Some vs) None xs ys p q = absurd q
 Appends-Appends (Some us) (Some vs) (Some ws) xs ys p q = q ∙ ap (λ zs. zs ++ ys) p ∙ append_assoc us xs ys
 
--- bytes were appended, and then a front of more
-pub AppendsFront-Appends : (old mid new : Option (List ℕ)) (xs ys : List ℕ) → Appends old mid xs → AppendsFront mid new ys → AppendsFront old new (xs ++ ys)
-AppendsFront-Appends old mid new xs ys p q = record {
+-- bytes were appended, and then a part of more
+pub AppendsPart-Appends : (old mid new : Option (List ℕ)) (xs ys : List ℕ) → Appends old mid xs → AppendsPart mid new ys → AppendsPart old new (xs ++ ys)
+AppendsPart-Appends old mid new xs ys p q = record {
   front = xs ++ q.front;
   back = q.back;
+  not_whole = q.not_whole;
   parts = append_assoc xs q.front q.back ∙ ap (λ zs. xs ++ zs) q.parts;
   appended = Appends-Appends old mid new xs q.front p q.appended;
 }
 
--- a front of bytes is a front of those bytes with more behind them
-pub AppendsFront-more : (old new : Option (List ℕ)) (xs ys : List ℕ) → AppendsFront old new xs → AppendsFront old new (xs ++ ys)
-AppendsFront-more old new xs ys p = record {
+-- what begins with something is something
+begins_not_empty : (xs ys : List ℕ) → xs ≢ [] → (xs ++ ys) ≢ []
+begins_not_empty [] ys some is = absurd (some refl)
+begins_not_empty (x ∷ xs) ys some is = cc
+
+-- a part of bytes is a part of those bytes with more behind them
+pub AppendsPart-more : (old new : Option (List ℕ)) (xs ys : List ℕ) → AppendsPart old new xs → AppendsPart old new (xs ++ ys)
+AppendsPart-more old new xs ys p = record {
   front = p.front;
   back = p.back ++ ys;
+  not_whole = begins_not_empty p.back ys p.not_whole;
   parts = sym (append_assoc p.front p.back ys) ∙ ap (λ zs. zs ++ ys) p.parts;
   appended = p.appended;
 }
@@ -56,26 +71,45 @@ pub AppendsBefore-end : (old new : Option (List ℕ)) (rest bytes : List ℕ) �
 AppendsBefore-end old new rest bytes before none =
     subst (λ (zs : List ℕ). Appends old new zs) (sym (append-nil before.front) ∙ ap (λ zs. before.front ++ zs) (sym none) ∙ before.parts) before.appended
 
-pub AppendsBefore-stop : (old mid new : Option (List ℕ)) (rest bytes : List ℕ) → AppendsBefore old mid rest bytes → Keeps mid new → AppendsFront old new bytes
-AppendsBefore-stop old mid new rest bytes before keeps = record {
+pub AppendsBefore-stop : (old mid new : Option (List ℕ)) (rest bytes : List ℕ) → AppendsBefore old mid rest bytes → rest ≢ [] → Keeps mid new → AppendsPart old new bytes
+AppendsBefore-stop old mid new rest bytes before some keeps = record {
   front = before.front;
   back = rest;
+  not_whole = some;
   parts = before.parts;
   appended = Appends-Keeps old mid new before.front before.appended keeps;
 }
 
--- all texts are those before a place, the text there and those after it
-joined-split : (pieces : List (Bor (List ℕ))) (i : ℕ) (d : Bor (List ℕ)) → i < length pieces → joined pieces ≡ joined (take i pieces) ++ ((get_or pieces i d).now ++ joined (drop (suc i) pieces))
-joined-split pieces i d within =
-    ap joined (sym (take-append-drop i pieces))
-    ∙ flat_map-append (λ (piece : Bor (List ℕ)). piece.now) (take i pieces) (drop i pieces)
-    ∙ ap (λ zs. joined (take i pieces) ++ joined zs) (drop-cons pieces i d within)
+-- what is written of a list is what is written of its items before a place, of the item there and of those after it
+flat_map-split : {X : Type 0} (f : X → List ℕ) (xs : List X) (i : ℕ) (d : X) → i < length xs → flat_map f xs ≡ flat_map f (take i xs) ++ (f (get_or xs i d) ++ flat_map f (drop (suc i) xs))
+flat_map-split f xs i d within =
+    ap (flat_map f) (sym (take-append-drop i xs))
+    ∙ flat_map-append f (take i xs) (drop i xs)
+    ∙ ap (λ ys. flat_map f (take i xs) ++ flat_map f ys) (drop-cons xs i d within)
 
--- the texts before a place were appended, and then a front of the text there
-pub AppendsFront-joined : (old mid new : Option (List ℕ)) (pieces : List (Bor (List ℕ))) (i : ℕ) (d : Bor (List ℕ)) (text : List ℕ) → i < length pieces → text ≡ (get_or pieces i d).now → Appends old mid (joined (take i pieces)) → AppendsFront mid new text → AppendsFront old new (joined pieces)
-AppendsFront-joined old mid new pieces i d text within is before front =
-    let rest : List ℕ = joined (drop (suc i) pieces) in
-    let parts : joined (take i pieces) ++ (text ++ rest) ≡ joined pieces =
-    ap (λ zs. joined (take i pieces) ++ (zs ++ rest)) is ∙ sym (joined-split pieces i d within) in
-    subst (λ (zs : List ℕ). AppendsFront old new zs) parts
-    (AppendsFront-Appends old mid new (joined (take i pieces)) (text ++ rest) before (AppendsFront-more mid new text rest front))
+-- the items before a place were written, and then a part of the item there
+pub AppendsPart-at : {X : Type 0} (f : X → List ℕ) (old mid new : Option (List ℕ)) (xs : List X) (i : ℕ) (d : X) (text : List ℕ) → i < length xs → text ≡ f (get_or xs i d) → Appends old mid (flat_map f (take i xs)) → AppendsPart mid new text → AppendsPart old new (flat_map f xs)
+AppendsPart-at f old mid new xs i d text within is before front =
+    let rest : List ℕ = flat_map f (drop (suc i) xs) in
+    let parts : flat_map f (take i xs) ++ (text ++ rest) ≡ flat_map f xs =
+    ap (λ bytes. flat_map f (take i xs) ++ (bytes ++ rest)) is ∙ sym (flat_map-split f xs i d within) in
+    subst (λ (bytes : List ℕ). AppendsPart old new bytes) parts
+    (AppendsPart-Appends old mid new (flat_map f (take i xs)) (text ++ rest) before (AppendsPart-more mid new text rest front))
+
+-- a write that failed after a part of its bytes
+pub Writes-failed : {X E : Type 0} (old new : Option (List ℕ)) (result : Result X E) (bytes : List ℕ) → IsErr result → AppendsPart old new bytes → Writes old new result bytes
+Writes-failed old new result bytes failed front =
+    MatchResult-from_err result (λ _. Appends old new bytes) (λ _. AppendsPart old new bytes) failed (λ _. front)
+
+-- bytes were appended, and then more were written
+pub Writes-Appends : {X E : Type 0} (old mid new : Option (List ℕ)) (result : Result X E) (xs ys : List ℕ) → Appends old mid xs → Writes mid new result ys → Writes old new result (xs ++ ys)
+Writes-Appends old mid new result xs ys before writes =
+    MatchResult-weaker result writes
+    (λ _ appends. Appends-Appends old mid new xs ys before appends)
+    (λ _ front. AppendsPart-Appends old mid new xs ys before front)
+
+-- in either case a front of the bytes was appended
+pub Writes-front : {X E : Type 0} (old new : Option (List ℕ)) (result : Result X E) (bytes : List ℕ) → Writes old new result bytes → AppendsFront old new bytes
+Writes-front old new (Ok x) bytes writes = record { front = bytes; back = []; parts = append-nil bytes; appended = writes }
+Writes-front old new (Err error) bytes writes =
+    record { front = writes.front; back = writes.back; parts = writes.parts; appended = writes.appended }

@@ -1,3 +1,3 @@
 pub mod Stops
 pub mod Fronts
-pub mod Kept
+pub mod Answered

@@ -1,9 +1,7 @@
 -- How the program ends: its line on standard error and its exit status.
-use Rattle.std.specs.Prelude.{◌≡◌, ℕ, List, [], ◌∷◌, ◌++◌, codes, string_bytes, Option}
-use Rattle.std.specs.Borrow.{Bor}
+use Rattle.std.specs.Prelude.{ℕ, List, [], ◌∷◌, ◌++◌, codes, string_bytes}
 use Rattle.std.specs.Fmt.{decimal}
-use Rattle.std.specs.Io.KnownBytes.{Appends}
-use Rattle.std.specs.List.{concat, flat_map}
+use Rattle.std.specs.List.{concat}
 use Rattle.tf_main.specs.Line.{line_feed}
 use Rattle.tf_main.specs.declared.fault.RunFault.{RunFault}
 use Rattle.tf_main.specs.declared.fault.RunFault.TheVariants.{NoMemory, BadLine, CannotWrite}
@@ -39,14 +37,3 @@ status_of Done = 0
 status_of Usage = 1
 status_of (CannotRead name) = 1
 status_of (Fault fault) = fault_status fault
-
--- texts, one after another
-abbrev pub joined : List (Bor (List ℕ)) → List ℕ
-joined pieces = flat_map (λ (piece : Bor (List ℕ)). piece.now) pieces
-
--- a front of the bytes was appended, and nothing else
-pub record AppendsFront (old new : Option (List ℕ)) (bytes : List ℕ) : Type 0 where
-  pub front : List ℕ
-  pub back : List ℕ
-  pub parts : front ++ back ≡ bytes
-  pub appended : Appends old new front

@@ -1,3 +1,5 @@
 pub mod Ending
 pub mod Line
 pub mod Script
+pub mod Output
+pub mod Run

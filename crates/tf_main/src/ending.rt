@@ -1,10 +1,11 @@
 //! How the program ends: its last line on standard error, and its exit status.
 
-ghost use Rattle.std.specs.Prelude.{◌≡◌, IsTrue};
-ghost use Rattle.std.specs.Io.KnownBytes.{Appends};
-ghost use Rattle.tf_main.specs.Ending.{AppendsFront, bad_line, ending_line, fault_line, fault_status, joined, status_of};
+ghost use Rattle.std.specs.Prelude.{◌≡◌};
+ghost use Rattle.tf_main.specs.Ending.{bad_line, ending_line, fault_line, fault_status, status_of};
+ghost use Rattle.tf_main.specs.Output.{AppendsFront, joined};
 
 use crate::RunFault;
+use crate::output::write_pieces;
 use itoa::Buffer;
 use std::io::Write;
 
@@ -34,11 +35,11 @@ pub fn report<W: Write>(ending: &Ending, err: &mut W) -> u8
     match ending {
         Ending::Done => 0,
         Ending::Usage => {
-            write_pieces(&[USAGE, "\n"], err);
+            tell(&[USAGE, "\n"], err);
             1
         }
         Ending::CannotRead(name) => {
-            write_pieces(&["cannot read ", name.as_str(), "\n"], err);
+            tell(&["cannot read ", name.as_str(), "\n"], err);
             1
         }
         Ending::Fault(fault) => report_fault(fault, err),
@@ -52,7 +53,7 @@ fn report_fault<W: Write>(fault: &RunFault, err: &mut W) -> u8
 {
     match fault {
         RunFault::NoMemory => {
-            write_pieces(&["no memory", "\n"], err);
+            tell(&["no memory", "\n"], err);
             2
         }
         RunFault::BadLine { line, column } => {
@@ -60,7 +61,7 @@ fn report_fault<W: Write>(fault: &RunFault, err: &mut W) -> u8
             1
         }
         RunFault::CannotWrite(_) => {
-            write_pieces(&["cannot write", "\n"], err);
+            tell(&["cannot write", "\n"], err);
             1
         }
     }
@@ -72,31 +73,12 @@ fn write_bad_line<W: Write>(line: u64, column: u64, out: &mut W)
 {
     let (mut line_digits, mut column_digits) = (Buffer::new(), Buffer::new());
     let (line, column) = (line_digits.format(line), column_digits.format(column));
-    write_pieces(&["bad line ", line, " column ", column, "\n"], out);
+    tell(&["bad line ", line, " column ", column, "\n"], out);
 }
 
-/// Writes texts one after another until all are written or the writer fails.
-fn write_pieces<W: Write>(pieces: &[&str], out: &mut W)
+/// Writes texts as far as the writer takes them.
+fn tell<W: Write>(pieces: &[&str], out: &mut W)
     ensures { AppendsFront (W.contents out.old) (W.contents out.new) (joined pieces.now) }
 {
-    for piece in pieces {
-        if !write_front(piece.as_bytes(), out) {
-            return;
-        }
-    }
-}
-
-/// Writes bytes from the first on until the writer has taken them all, which is answered, or fails.
-fn write_front<W: Write>(bytes: &[u8], out: &mut W) -> bool
-    ensures whole { IsTrue result → Appends (W.contents out.old) (W.contents out.new) bytes.now }
-    ensures front { AppendsFront (W.contents out.old) (W.contents out.new) bytes.now }
-{
-    let mut rest = bytes;
-    while !rest.is_empty() {
-        match out.write(rest) {
-            Ok(0) | Err(_) => return false,
-            Ok(count) => rest = &rest[count..],
-        }
-    }
-    true
+    let _ = write_pieces(pieces, out);
 }

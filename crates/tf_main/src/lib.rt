@@ -4,10 +4,11 @@
 //! writes the lines of each. [`report`] writes the program's last line and answers its exit status.
 #![tactic(auto)]
 
+mod answer;
 mod ending;
 mod fault;
 mod line;
-mod query;
+mod output;
 mod row;
 mod run;
 

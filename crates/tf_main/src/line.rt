@@ -1,25 +1,54 @@
-//! The lines of a batch.
+//! The lines of commands.
 
-ghost use Rattle.std.specs.Prelude.{OnOk, codes};
 ghost use Rattle.std.specs.List.{flat_map};
-ghost use Rattle.std.specs.Io.KnownBytes.{Appends};
-ghost use Rattle.tf_main.specs.Line.{failure_line, clock_line, refusal_line};
+ghost use Rattle.tf_main.specs.Line.{batch_lines, clock_line, compacted_line, count_line, failure_line, number_line, published_line, pulse_lines, refusal_line, refused_line};
+ghost use Rattle.tf_main.specs.Output.{Writes};
 
+use crate::output::write_pieces;
+use itoa::Buffer;
 use std::io;
 use std::io::Write;
 use tf_records::{Failure, Refusal};
 
+/// Writes `NAME NUMBER`.
+fn write_number<W: Write>(name: &str, number: u64, out: &mut W) -> io::Result<()>
+    ensures { Writes (W.contents out.old) (W.contents out.new) result (number_line name.now number) }
+{
+    let mut digits = Buffer::new();
+    write_pieces(&[name, " ", digits.format(number), "\n"], out)
+}
+
 /// Writes `INDEX RESULT`.
 fn write_failure<W: Write>(failure: &Failure, out: &mut W) -> io::Result<()>
-    ensures { OnOk result (Appends (W.contents out.old) (W.contents out.new) (failure_line failure.now)) }
+    ensures { Writes (W.contents out.old) (W.contents out.new) result (failure_line failure.now) }
 {
-    writeln!(out, "{} {}", failure.index, failure.outcome.name())
+    let mut digits = Buffer::new();
+    let index = digits.format(failure.index);
+    write_pieces(&[index, " ", failure.outcome.name(), "\n"], out)
+}
+
+/// Writes the lines of a batch that was run: `INDEX RESULT` for each failed event, then `clock C`.
+/// Takes no memory.
+pub fn write_reply<W: Write>(failures: &[Failure], clock: u64, out: &mut W) -> io::Result<()>
+    ensures { Writes (W.contents out.old) (W.contents out.new) result
+        (batch_lines failures.now clock) }
+{
+    write_failures(failures, out)?;
+    write_clock(clock, out)
+}
+
+/// Writes the lines of a pulse: `expired K`, then `clock C`. Takes no memory.
+pub fn write_pulse<W: Write>(expired: u32, clock: u64, out: &mut W) -> io::Result<()>
+    ensures { Writes (W.contents out.old) (W.contents out.new) result (pulse_lines expired clock) }
+{
+    write_number("expired", expired.into(), out)?;
+    write_clock(clock, out)
 }
 
 /// Writes `INDEX RESULT` for each failed event. Takes no memory.
 pub fn write_failures<W: Write>(failures: &[Failure], out: &mut W) -> io::Result<()>
-    ensures { OnOk result (Appends (W.contents out.old) (W.contents out.new)
-        (flat_map failure_line failures.now)) }
+    ensures { Writes (W.contents out.old) (W.contents out.new) result
+        (flat_map failure_line failures.now) }
 {
     for failure in failures {
         write_failure(failure, out)?;
@@ -29,20 +58,48 @@ pub fn write_failures<W: Write>(failures: &[Failure], out: &mut W) -> io::Result
 
 /// Writes `clock C`. Takes no memory.
 pub fn write_clock<W: Write>(clock: u64, out: &mut W) -> io::Result<()>
-    ensures { OnOk result (Appends (W.contents out.old) (W.contents out.new) (clock_line clock)) }
+    ensures { Writes (W.contents out.old) (W.contents out.new) result (clock_line clock) }
 {
-    writeln!(out, "clock {clock}")
+    write_number("clock", clock, out)
+}
+
+/// Writes `rows K`. Takes no memory.
+pub fn write_count<W: Write>(count: usize, out: &mut W) -> io::Result<()>
+    ensures { Writes (W.contents out.old) (W.contents out.new) result (count_line count) }
+{
+    write_number("rows", count as u64, out)
+}
+
+/// Writes `published`. Takes no memory.
+pub fn write_published<W: Write>(out: &mut W) -> io::Result<()>
+    ensures { Writes (W.contents out.old) (W.contents out.new) result published_line }
+{
+    write_pieces(&["published", "\n"], out)
+}
+
+/// Writes `compacted`. Takes no memory.
+pub fn write_compacted<W: Write>(out: &mut W) -> io::Result<()>
+    ensures { Writes (W.contents out.old) (W.contents out.new) result compacted_line }
+{
+    write_pieces(&["compacted", "\n"], out)
 }
 
 /// Writes `refused NAME` for a refusal by which a script goes on, else nothing. Takes no memory.
 pub fn write_refusal<W: Write>(refusal: Refusal, out: &mut W) -> io::Result<()>
-    ensures { OnOk result (Appends (W.contents out.old) (W.contents out.new) (refusal_line refusal)) }
+    ensures { Writes (W.contents out.old) (W.contents out.new) result (refusal_line refusal) }
 {
     match refusal {
-        Refusal::BatchTooLarge => writeln!(out, "refused batch_too_large"),
-        Refusal::ClockExhausted => writeln!(out, "refused clock_exhausted"),
-        Refusal::RegistryFull => writeln!(out, "refused registry_full"),
+        Refusal::BatchTooLarge => write_refused("batch_too_large", out),
+        Refusal::ClockExhausted => write_refused("clock_exhausted", out),
+        Refusal::RegistryFull => write_refused("registry_full", out),
         Refusal::NoMemory | Refusal::Stale | Refusal::BadLine { .. } | Refusal::BadRecord { .. } =>
             Ok(()),
     }
+}
+
+/// Writes `refused NAME`.
+fn write_refused<W: Write>(name: &str, out: &mut W) -> io::Result<()>
+    ensures { Writes (W.contents out.old) (W.contents out.new) result (refused_line name.now) }
+{
+    write_pieces(&["refused ", name, "\n"], out)
 }

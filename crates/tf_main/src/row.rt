@@ -1,12 +1,15 @@
 //! The lines of a query.
 
-ghost use Rattle.std.specs.Prelude.{ℕ, List, OnOk, length};
-ghost use Rattle.std.specs.Io.KnownBytes.{Appends};
-ghost use Rattle.tf_main.specs.Line.{transfer_line, count_line, query_lines};
+ghost use Rattle.std.specs.Prelude.{ℕ, List, map};
+ghost use Rattle.tf_main.specs.Line.{account_line, balance_line, field_of, field_text, fields_line, query_lines, transfer_line};
+ghost use Rattle.tf_main.specs.Output.{Writes};
 
+use crate::line::write_count;
+use crate::output::write_pieces;
+use itoa::Buffer;
 use std::io;
 use std::io::Write;
-use tf_records::Transfer;
+use tf_records::{Account, AccountBalance, Transfer};
 
 /// What a query gives rows of: each prints as one line.
 pub trait Row {
@@ -15,40 +18,97 @@ pub trait Row {
 
     /// Writes the row's line. Takes no memory.
     fn write_line<W: Write>(&self, out: &mut W) -> io::Result<()>
-        ensures { OnOk result (Appends (W.contents out.old) (W.contents out.new) (line self.now)) };
+        ensures { Writes (W.contents out.old) (W.contents out.new) result (line self.now) };
+}
+
+impl Row for Account {
+    ghost line = { account_line };
+
+    fn write_line<W: Write>(&self, out: &mut W) -> io::Result<()> {
+        let fields = [
+            ("id", self.id),
+            ("debits_pending", self.debits_pending),
+            ("debits_posted", self.debits_posted),
+            ("credits_pending", self.credits_pending),
+            ("credits_posted", self.credits_posted),
+            ("user_data_128", self.user_data_128),
+            ("user_data_64", self.user_data_64.into()),
+            ("user_data_32", self.user_data_32.into()),
+            ("ledger", self.ledger.into()),
+            ("code", self.code.into()),
+            ("flags", self.flags.into()),
+            ("timestamp", self.timestamp.into()),
+        ];
+        write_fields("account", &fields, out)
+    }
 }
 
 impl Row for Transfer {
     ghost line = { transfer_line };
 
     fn write_line<W: Write>(&self, out: &mut W) -> io::Result<()> {
-        writeln!(
-            out,
-            "transfer id={} debit_account_id={} credit_account_id={} amount={} pending_id={} user_data_128={} user_data_64={} user_data_32={} timeout={} ledger={} code={} flags={} timestamp={}",
-            self.id,
-            self.debit_account_id,
-            self.credit_account_id,
-            self.amount,
-            self.pending_id,
-            self.user_data_128,
-            self.user_data_64,
-            self.user_data_32,
-            self.timeout,
-            self.ledger,
-            self.code,
-            self.flags,
-            self.timestamp
-        )
+        let fields = [
+            ("id", self.id),
+            ("debit_account_id", self.debit_account_id),
+            ("credit_account_id", self.credit_account_id),
+            ("amount", self.amount),
+            ("pending_id", self.pending_id),
+            ("user_data_128", self.user_data_128),
+            ("user_data_64", self.user_data_64.into()),
+            ("user_data_32", self.user_data_32.into()),
+            ("timeout", self.timeout.into()),
+            ("ledger", self.ledger.into()),
+            ("code", self.code.into()),
+            ("flags", self.flags.into()),
+            ("timestamp", self.timestamp.into()),
+        ];
+        write_fields("transfer", &fields, out)
     }
+}
+
+impl Row for AccountBalance {
+    ghost line = { balance_line };
+
+    fn write_line<W: Write>(&self, out: &mut W) -> io::Result<()> {
+        let fields = [
+            ("debits_pending", self.debits_pending),
+            ("debits_posted", self.debits_posted),
+            ("credits_pending", self.credits_pending),
+            ("credits_posted", self.credits_posted),
+            ("timestamp", self.timestamp.into()),
+        ];
+        write_fields("balance", &fields, out)
+    }
+}
+
+/// Writes `KIND NAME=NUMBER ..`.
+fn write_fields<W: Write>(kind: &str, fields: &[(&str, u128)], out: &mut W) -> io::Result<()>
+    ensures { Writes (W.contents out.old) (W.contents out.new) result
+        (fields_line kind.now (map field_of fields.now)) }
+{
+    write_pieces(&[kind], out)?;
+    for (name, number) in fields {
+        write_field(name, *number, out)?;
+    }
+    write_pieces(&["\n"], out)
+}
+
+/// Writes ` NAME=NUMBER`.
+fn write_field<W: Write>(name: &str, number: u128, out: &mut W) -> io::Result<()>
+    ensures { Writes (W.contents out.old) (W.contents out.new) result
+        (field_text (name.now, number)) }
+{
+    let mut digits = Buffer::new();
+    write_pieces(&[" ", name, "=", digits.format(number)], out)
 }
 
 /// Writes each row's line and then `rows K`. Takes no memory.
 pub fn write_rows<T: Row, W: Write>(rows: &[T], out: &mut W) -> io::Result<()>
-    ensures { OnOk result (Appends (W.contents out.old) (W.contents out.new)
-        (query_lines T.line rows.now)) }
+    ensures { Writes (W.contents out.old) (W.contents out.new) result
+        (query_lines T.line rows.now) }
 {
     for row in rows {
         row.write_line(out)?;
     }
-    writeln!(out, "rows {}", rows.len())
+    write_count(rows.len(), out)
 }

@@ -1,23 +1,26 @@
 //! Runs scripts.
 
-ghost use Rattle.std.specs.Prelude.{◌≡◌, ◌≢◌, map, OnOk, IfErr, MatchResult, Err};
-ghost use Rattle.std.specs.Io.KnownBytes.{Appends, Keeps};
-ghost use Rattle.tf_journal.specs.Journal.{IsJournal, IsUpTo};
-ghost use Rattle.tf_journal.specs.Lawful.{IsLawful};
-ghost use Rattle.tf_script.specs.Commands.{command_view, commands_of};
-ghost use Rattle.tf_main.specs.Line.{batch_lines, refusal_line};
-ghost use Rattle.tf_main.specs.Script.{command_answer, script_answer, FaultTells, IsAnswered, StopsAfterSome, StopsBefore};
+ghost use Rattle.std.specs.Prelude.{OnOk, IfErr};
+ghost use Rattle.std.specs.Io.KnownBytes.{Appends};
+ghost use Rattle.tf_journal.specs.Lawful.{IsLawfulAt};
+ghost use Rattle.tf_script.specs.Command as command;
+ghost use Rattle.tf_script.specs.CommandViews.{command_view, commands_of};
+ghost use Rattle.tf_main.specs.Script.{FaultTells, IsAnswered, StopsRunning, script_answer};
+ghost use Rattle.tf_main.specs.Run.{IsCommandRun};
 
 use crate::RunFault;
-use crate::line::{write_clock, write_failures, write_refusal};
-use crate::query::account_transfers;
-use crate::row::write_rows;
+use crate::answer::{write_batch, write_found, write_pulsed};
+use crate::line::{write_compacted, write_published};
 use std::alloc::Allocator;
 use std::io::Write;
 use tf_events::{run_accounts, run_transfers};
-use tf_journal::{Ledger, PlainLedger};
-use tf_records::{Refusal, Reply};
-use tf_script::{Command, parse};
+use tf_journal::{
+    Ledger, PlainLedger, get_account_balances, get_account_transfers, lookup_accounts,
+    lookup_transfers, query_accounts, query_transfers,
+};
+use tf_pending::pulse;
+use tf_records::Refusal;
+use tf_script::{Command, Query, parse};
 
 /// Runs a script over an empty ledger and writes what its commands print. The whole script is read
 /// before any of it is run.
@@ -28,9 +31,11 @@ use tf_script::{Command, parse};
 ///
 /// # Errors
 ///
-/// `RunFault::BadLine` with the place of the script's first fault, if it has one: nothing was run.
-/// `RunFault::CannotWrite` where the writer failed. `RunFault::NoMemory` where a growth was refused:
-/// what was written is the output of some number of commands, from the first on and each whole.
+/// - `RunFault::BadLine` with the place of the script's first fault, if it has one: nothing was run.
+/// - `RunFault::CannotWrite` where the writer failed: what was written is a part of the answer, from its
+///   first byte on.
+/// - `RunFault::NoMemory` where a growth was refused, at a script without a fault: what was written is the
+///   output of the commands before one that isn't refused itself, each whole.
 pub fn run_script<A: Allocator + Drop, W: Write>(
     alloc: A,
     script: &[u8],
@@ -54,7 +59,7 @@ fn run_commands<A: Allocator, B: Allocator, W: Write>(
 ) -> Result<(), RunFault>
     ensures answered { OnOk result (Appends (W.contents out.old) (W.contents out.new)
         (script_answer (commands_of commands.now))) }
-    ensures fault { IfErr result (StopsAfterSome (commands_of commands.now)
+    ensures fault { IfErr result (StopsRunning (commands_of commands.now)
         (W.contents out.old) (W.contents out.new)) }
 {
     let mut ledger = PlainLedger::new(alloc);
@@ -71,24 +76,10 @@ fn run_command<A: Allocator, B: Allocator, C: Allocator, W: Write>(
     command: &Command<C>,
     out: &mut W,
 ) -> Result<(), RunFault>
-    requires rising { IsJournal (⟦<PlainLedger<B> as Ledger>⟧.journal ledger.old) }
-    requires lawful { IsLawful (⟦<PlainLedger<B> as Ledger>⟧.journal ledger.old) }
-    requires up_to { IsUpTo (⟦<PlainLedger<B> as Ledger>⟧.clock ledger.old)
+    requires { IsLawfulAt (⟦<PlainLedger<B> as Ledger>⟧.clock ledger.old)
         (⟦<PlainLedger<B> as Ledger>⟧.journal ledger.old) }
-    ensures output { OnOk result (Appends (W.contents out.old) (W.contents out.new)
-        (command_answer (⟦<PlainLedger<B> as Ledger>⟧.journal ledger.old)
-        (⟦<PlainLedger<B> as Ledger>⟧.clock ledger.old) (command_view command.now)).output) }
-    ensures journal { OnOk result (⟦<PlainLedger<B> as Ledger>⟧.journal ledger.new
-        ≡ (command_answer (⟦<PlainLedger<B> as Ledger>⟧.journal ledger.old)
-        (⟦<PlainLedger<B> as Ledger>⟧.clock ledger.old) (command_view command.now)).journal) }
-    ensures clock { OnOk result (⟦<PlainLedger<B> as Ledger>⟧.clock ledger.new
-        ≡ (command_answer (⟦<PlainLedger<B> as Ledger>⟧.journal ledger.old)
-        (⟦<PlainLedger<B> as Ledger>⟧.clock ledger.old) (command_view command.now)).clock) }
-    ensures rising { IsJournal (⟦<PlainLedger<B> as Ledger>⟧.journal ledger.new) }
-    ensures lawful { IsLawful (⟦<PlainLedger<B> as Ledger>⟧.journal ledger.new) }
-    ensures up_to { IsUpTo (⟦<PlainLedger<B> as Ledger>⟧.clock ledger.new)
-        (⟦<PlainLedger<B> as Ledger>⟧.journal ledger.new) }
-    ensures fault { IfErr result (StopsBefore (W.contents out.old) (W.contents out.new)) }
+    ensures { IsCommandRun ⟦<PlainLedger<B> as Ledger>⟧.journal ⟦<PlainLedger<B> as Ledger>⟧.clock
+        ledger.old ledger.new (W.contents out.old) (W.contents out.new) (command_view command.now) result }
 {
     match command {
         Command::Accounts { now, events } => {
@@ -99,33 +90,42 @@ fn run_command<A: Allocator, B: Allocator, C: Allocator, W: Write>(
             let outcome = run_transfers(alloc, ledger, events.as_slice(), *now);
             write_batch(&outcome, ledger.clock(), out)
         }
-        Command::GetAccountTransfers(filter) => {
-            let Ok(rows) = account_transfers(alloc, ledger.entries(), filter) else {
-                return Err(RunFault::NoMemory);
-            };
-            write_rows(rows.as_slice(), out).map_err(RunFault::CannotWrite)
+        Command::Pulse { now, max } => {
+            let outcome = pulse(ledger, *now, *max);
+            write_pulsed(outcome, ledger.clock(), out)
+        }
+        Command::Publish => write_published(out).map_err(RunFault::CannotWrite),
+        Command::Compact => write_compacted(out).map_err(RunFault::CannotWrite),
+        Command::Query(query) => run_query(alloc, ledger, query, out),
+        Command::LookupAccounts(ids) => {
+            write_found(&lookup_accounts(alloc, ledger, ids.as_slice()), out)
+        }
+        Command::LookupTransfers(ids) => {
+            write_found(&lookup_transfers(alloc, ledger, ids.as_slice()), out)
         }
     }
 }
 
-/// Writes the lines of a batch: those of its reply and the clock, or that of its refusal.
-fn write_batch<A: Allocator, W: Write>(
-    outcome: &Result<Reply<A>, Refusal>,
-    clock: u64,
+/// Answers one query and writes its rows.
+fn run_query<A: Allocator, B: Allocator, W: Write>(
+    alloc: &A,
+    ledger: &PlainLedger<B>,
+    query: &Query,
     out: &mut W,
 ) -> Result<(), RunFault>
-    ensures output { OnOk result (MatchResult outcome.now
-        (λ reply. Appends (W.contents out.old) (W.contents out.new) (batch_lines reply clock))
-        (λ refusal. Appends (W.contents out.old) (W.contents out.new) (refusal_line refusal))) }
-    ensures refused { OnOk result (IfErr outcome.now (λ refusal. refusal ≢ Refusal.NoMemory)) }
-    ensures fault { IfErr result (StopsBefore (W.contents out.old) (W.contents out.new)) }
+    requires { IsLawfulAt (⟦<PlainLedger<B> as Ledger>⟧.clock ledger.now)
+        (⟦<PlainLedger<B> as Ledger>⟧.journal ledger.now) }
+    ensures { IsCommandRun ⟦<PlainLedger<B> as Ledger>⟧.journal ⟦<PlainLedger<B> as Ledger>⟧.clock
+        ledger.now ledger.now (W.contents out.old) (W.contents out.new) (command.query query.now) result }
 {
-    match outcome {
-        Ok(reply) => {
-            write_failures(reply.as_slice(), out).map_err(RunFault::CannotWrite)?;
-            write_clock(clock, out).map_err(RunFault::CannotWrite)
+    match query {
+        Query::AccountTransfers(filter) => {
+            write_found(&get_account_transfers(alloc, ledger, filter), out)
         }
-        Err(Refusal::NoMemory) => Err(RunFault::NoMemory),
-        Err(refusal) => write_refusal(*refusal, out).map_err(RunFault::CannotWrite),
+        Query::AccountBalances(filter) => {
+            write_found(&get_account_balances(alloc, ledger, filter), out)
+        }
+        Query::Accounts(filter) => write_found(&query_accounts(alloc, ledger, filter), out),
+        Query::Transfers(filter) => write_found(&query_transfers(alloc, ledger, filter), out),
     }
 }

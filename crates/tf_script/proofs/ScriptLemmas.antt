@@ -1,11 +1,15 @@
 -- The lines of a script, one after another.
-use Rattle.std.proofs.Common.{◌≡◌, ℕ, suc, ◌+◌, ◌<◌, Bool, true, false, eqb, List, [], ◌∷◌, ◌++◌, length, take, drop, Option, Result, Ok, Err, refl, sym, ap, ◌∙◌, arith}
+use Rattle.std.proofs.Common.{◌≡◌, ℕ, suc, ◌+◌, ◌<◌, Bool, true, false, eqb, List, [], ◌∷◌, length, take, drop, Option, Result, Ok, Err, refl, sym, ap, ◌∙◌, arith}
 use Rattle.std.specs.List.{position_or_len, before_first, after_first, onto_first}
+use Rattle.tf_records.specs.declared.refusal.Refusal.{Refusal}
+use Rattle.tf_records.specs.declared.refusal.Refusal.TheVariants.{NoMemory, BatchTooLarge, ClockExhausted, Stale, RegistryFull, BadLine, BadRecord}
 use Rattle.tf_script.specs.Lines.{lines_of}
-use Rattle.tf_script.specs.Statements.{◌<&>◌, statement_of}
-use Rattle.tf_script.specs.Script.{Place, Command, before, commands_from}
+use Rattle.tf_script.specs.CommandViews.{Explains}
+use Rattle.tf_script.specs.Command.{Command}
+use Rattle.tf_script.specs.Statements.{◌<&>◌, Statement, statement_of}
+use Rattle.std.proofs.lemmas.List.{nil_from_length}
+use Rattle.tf_script.specs.Script.{Place, batch_after, with_line, ended, commands_from}
 use Rattle.tf_script.specs.declared.statement.Batch.{Batch}
-use Rattle.tf_script.specs.declared.statement.Statement.{Statement}
 
 abbrev pub is_feed : ℕ → Bool
 is_feed byte = eqb byte 10
@@ -49,11 +53,32 @@ commands_from-fault batch number column text line rest h front back fault =
     ap (commands_from batch number) (lines_of-first text line rest h front back) ∙ rw (← fault, commands_from) refl
 
 pub commands_from-line : (batch : Option Batch) (number : ℕ) (statement : Statement) (text line rest : List ℕ) → 0 < length text → line ≡ before_first is_feed text → rest ≡ after_first is_feed text
-    → Ok statement ≡ statement_of batch line → commands_from batch number (lines_of text) ≡ before batch statement (λ opened. commands_from opened (number + 1) (lines_of rest))
+    → Ok statement ≡ statement_of batch line → commands_from batch number (lines_of text) ≡ (commands_from (batch_after batch statement) (number + 1) (lines_of rest) <&> with_line batch statement)
 commands_from-line batch number statement text line rest h front back means =
     ap (commands_from batch number) (lines_of-first text line rest h front back) ∙ rw (← means, commands_from) refl
 
--- nothing is read
-pub then-nothing : (answer : Result (List Command) Place) → (answer <&> λ commands. [] ++ commands) ≡ answer
-then-nothing (Ok commands) = refl
-then-nothing (Err place) = refl
+-- a step that changes nothing
+pub then-nothing : (answer : Result (List Command) Place) (f : List Command → List Command) → ((commands : List Command) → f commands ≡ commands) → (answer <&> f) ≡ answer
+then-nothing (Ok commands) f same = ap Ok (same commands)
+then-nothing (Err place) f same = refl
+
+-- two steps on an answer are one
+pub then-map : (answer : Result (List Command) Place) (f g h : List Command → List Command) → ((commands : List Command) → h commands ≡ g (f commands)) → (answer <&> h) ≡ ((answer <&> f) <&> g)
+then-map (Ok commands) f g h same = ap Ok (same commands)
+then-map (Err place) f g h same = refl
+
+-- what explains an answer explains what follows from it
+pub Explains-map : (refusal : Refusal) (answer : Result (List Command) Place) (f : List Command → List Command) → Explains refusal answer → Explains refusal (answer <&> f)
+Explains-map NoMemory (Ok commands) f h = h
+Explains-map NoMemory (Err place) f h = h
+Explains-map (BadLine line column) (Ok commands) f h = ap (λ a. a <&> f) h
+Explains-map (BadLine line column) (Err place) f h = h
+Explains-map BatchTooLarge answer f h = absurd h
+Explains-map ClockExhausted answer f h = absurd h
+Explains-map Stale answer f h = absurd h
+Explains-map RegistryFull answer f h = absurd h
+Explains-map (BadRecord length) answer f h = absurd h
+
+-- no line is left
+pub commands_from-end : (batch : Option Batch) (number : ℕ) (text : List ℕ) → length text ≡ 0 → commands_from batch number (lines_of text) ≡ ended batch number
+commands_from-end batch number text h = ap (λ t. commands_from batch number (lines_of t)) (nil_from_length text h)

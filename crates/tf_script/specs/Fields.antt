@@ -1,10 +1,7 @@
 -- The fields of a record, and what a line's words FIELD=VALUE give them.
-use Rattle.std.specs.Prelude.{ℕ, zero, suc, ◌+◌, ◌≤◌, List, [], ◌∷◌, Option, Some, None, Result, Ok, Err, if◌then◌else◌, ◌==◌, map, take, drop, replicate, length, is_some, slice_get, slice_set, slice_index_or, unwrap_or, position, nat_lt, Bool}
-use Rattle.std.specs.List.{list_all}
-use Rattle.std.specs.Borrow.{Bor}
+use Rattle.std.specs.Prelude.{ℕ, ◌+◌, List, [], ◌∷◌, Option, Some, None, Result, Ok, Err, if◌then◌else◌, ◌==◌, map, take, drop, replicate, length, is_some, slice_get, slice_set, slice_index_or, unwrap_or, position}
 use Rattle.tf_script.specs.Values.{◌>>=◌, place_of, number_of, flags_of, at_most}
 use Rattle.tf_script.specs.Words.{Word}
-use Rattle.tf_script.specs.declared.field.FieldEntry.{FieldEntry}
 use Rattle.tf_script.specs.declared.field.Assignment.{Assignment}
 
 -- a field's name, its greatest number, and the names of its bits from bit 0 on, if it is a set of flags
@@ -13,31 +10,15 @@ pub record Field : Type 0 where
   pub greatest : ℕ
   pub flags : List (List ℕ)
 
--- borrowed texts, as their bytes
-abbrev pub texts_of : List (Bor (List ℕ)) → List (List ℕ)
-texts_of texts = map (λ (text : Bor (List ℕ)). text.now) texts
-
 -- the names of fields
 abbrev pub names_of : List Field → List (List ℕ)
 names_of fields = map (λ (field : Field). field.name) fields
-
--- the field that an entry of a table describes
-abbrev pub field_of : FieldEntry → Field
-field_of entry = record {
-  name = entry.name.now;
-  greatest = entry.greatest;
-  flags = texts_of entry.flags.now;
-}
 
 -- what a field can be given: a number, or flags by their names
 unfoldable pub value_of : Field → List ℕ → Option ℕ
 value_of field text =
     if is_some (number_of field.greatest text) then number_of field.greatest text
     else (flags_of field.flags text >>= at_most field.greatest)
-
--- no field has more flags than a number has bits
-abbrev pub few_flags : List FieldEntry → Bool
-few_flags table = list_all (λ (entry : FieldEntry). nat_lt (length entry.flags.now) 128) table
 
 -- what a word assigns, where values has the numbers assigned before it: the first `=`, byte 61, parts name and value
 unfoldable pub assignment_of : List Field → List (Option ℕ) → List ℕ → Option Assignment
@@ -65,13 +46,3 @@ values_of fields words = assigned fields (replicate (length fields) None) words
 -- the number of the field at a place: 0 for one that wasn't named
 abbrev pub number_at : List (Option ℕ) → ℕ → ℕ
 number_at values place = unwrap_or (slice_index_or values place None) 0
-
--- the greatest number of the field at a place
-abbrev pub greatest_at : List Field → ℕ → ℕ
-greatest_at [] place = 0
-greatest_at (field ∷ fields) zero = field.greatest
-greatest_at (field ∷ fields) (suc place) = greatest_at fields place
-
--- each value fits its field
-abbrev pub Fit : List Field → List (Option ℕ) → Type 0
-Fit fields values = (place : ℕ) → number_at values place ≤ greatest_at fields place

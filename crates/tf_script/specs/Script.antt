@@ -2,24 +2,16 @@
 use Rattle.std.specs.Prelude.{ℕ, ◌+◌, List, [], ◌∷◌, Option, Some, None, Result, Ok, Err}
 use Rattle.tf_records.specs.declared.account.Account.{Account}
 use Rattle.tf_records.specs.declared.transfer.Transfer.{Transfer}
-use Rattle.tf_records.specs.declared.account_filter.AccountFilter.{AccountFilter}
 use Rattle.tf_script.specs.Lines.{lines_of}
-use Rattle.tf_script.specs.Statements.{◌<&>◌, statement_of}
+use Rattle.tf_script.specs.Command.{Command, accounts, transfers}
+use Rattle.tf_script.specs.Statements.{◌<&>◌, Statement, opens, account_event, transfer_event, closes, asks, statement_of}
 use Rattle.tf_script.specs.declared.statement.Batch.{Batch}
 use Rattle.tf_script.specs.declared.statement.Batch.TheVariants.{Accounts, Transfers}
-use Rattle.tf_script.specs.declared.statement.Statement.{Statement}
-use Rattle.tf_script.specs.declared.statement.Statement.TheVariants.{Blank, Opens, AccountEvent, TransferEvent, Closes, GetAccountTransfers}
 
 -- a place in a script; both count from 1
 pub record Place : Type 0 where
   pub line : ℕ
   pub column : ℕ
-
--- a command: a batch of accounts or of transfers with its moment and its events, or a query
-pub data Command : Type 0 where
-  accounts : (now : ℕ) (events : List Account) → Command
-  transfers : (now : ℕ) (events : List Transfer) → Command
-  get_account_transfers : (filter : AccountFilter) → Command
 
 -- the batch before it has any event
 abbrev pub empty_batch : Batch → Command
@@ -31,19 +23,24 @@ abbrev pub with_account : Account → List Command → List Command
 with_account event (accounts now events ∷ commands) = accounts now (event ∷ events) ∷ commands
 with_account event commands = commands
 
+-- an event goes before those of the batch that comes first
 abbrev pub with_transfer : Transfer → List Command → List Command
 with_transfer event (transfers now events ∷ commands) = transfers now (event ∷ events) ∷ commands
 with_transfer event commands = commands
 
--- a line and what follows it: following says what the lines after it mean where a batch is open or none is
-abbrev pub before : Option Batch → Statement → (Option Batch → Result (List Command) Place) → Result (List Command) Place
-before batch Blank following = following batch
-before batch (Opens opened) following = following (Some opened)
-before batch (AccountEvent event) following = following batch <&> with_account event
-before batch (TransferEvent event) following = following batch <&> with_transfer event
-before None Closes following = following None
-before (Some batch) Closes following = following None <&> λ commands. empty_batch batch ∷ commands
-before batch (GetAccountTransfers filter) following = following batch <&> λ commands. get_account_transfers filter ∷ commands
+-- the batch that is open after a line
+abbrev pub batch_after : Option Batch → Statement → Option Batch
+batch_after batch (opens opened) = Some opened
+batch_after batch closes = None
+batch_after batch statement = batch
+
+-- the commands of a line and of those after it, the first of which is the batch that is open then
+abbrev pub with_line : Option Batch → Statement → List Command → List Command
+with_line batch (account_event event) commands = with_account event commands
+with_line batch (transfer_event event) commands = with_transfer event commands
+with_line (Some batch) closes commands = empty_batch batch ∷ commands
+with_line batch (asks command) commands = command ∷ commands
+with_line batch statement commands = commands
 
 -- a script ends outside a batch; number is one more than that of its last line
 abbrev pub ended : Option Batch → ℕ → Result (List Command) Place
@@ -56,7 +53,7 @@ commands_from batch number [] = ended batch number
 commands_from batch number (line ∷ lines) =
     elim (statement_of batch line) [
       | Err column ↦ Err (record { line = number; column = column })
-      | Ok statement ↦ before batch statement (λ opened. commands_from opened (number + 1) lines)
+      | Ok statement ↦ commands_from (batch_after batch statement) (number + 1) lines <&> with_line batch statement
     ]
 
 -- the commands of a script, or its first fault

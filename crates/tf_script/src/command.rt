@@ -1,7 +1,7 @@
 //! What a script asks for.
 
 use std::alloc::Allocator;
-use tf_records::{Account, AccountFilter, Transfer};
+use tf_records::{Account, AccountFilter, QueryFilter, Transfer};
 
 /// One command of a script.
 #[derive(Drop)]
@@ -20,6 +20,34 @@ pub enum Command<A: Allocator> {
         /// Its events, in their order; any number of them.
         events: Vec<Transfer, A>,
     },
-    /// A query for the transfers of one account.
-    GetAccountTransfers(AccountFilter),
+    /// A pulse, by which pending transfers expire.
+    Pulse {
+        /// The moment that the pulse is given, in nanoseconds.
+        now: u64,
+        /// The most transfers that it expires.
+        max: u32,
+    },
+    /// What is stored so far is published.
+    Publish,
+    /// Each row's tables are merged until none has a merge to do.
+    Compact,
+    /// A query.
+    Query(Query),
+    /// The accounts with these ids, in their order; any number of them.
+    LookupAccounts(Vec<u128, A>),
+    /// The transfers with these ids, in their order; any number of them.
+    LookupTransfers(Vec<u128, A>),
+}
+
+/// What a query asks for, by its filter, which may be invalid.
+#[derive(Clone, Copy, Debug, PartialEq, Eq)]
+pub enum Query {
+    /// The transfers of one account.
+    AccountTransfers(AccountFilter),
+    /// The balances of one account after its transfers.
+    AccountBalances(AccountFilter),
+    /// All accounts.
+    Accounts(QueryFilter),
+    /// All transfers.
+    Transfers(QueryFilter),
 }

@@ -1,11 +1,13 @@
 //! The fields of a record, and what a line's words FIELD=VALUE give them.
 
 ghost use Rattle.std.specs.Prelude.{◌≡◌, ℕ, ◌+◌, ◌<◌, ◌≤◌, ◌^◌, length, map, OnOk, IfSome, MatchResult, IsTrue};
-ghost use Rattle.tf_script.specs.WordViews.{words_of, HasColumns};
 ghost use Rattle.tf_script.specs.Values.{place_of};
-ghost use Rattle.tf_script.specs.Fields.{field_of, few_flags, names_of, value_of, assignment_of, assigned, number_at, greatest_at, Fit};
+ghost use Rattle.tf_script.specs.Fields.{names_of, value_of, assignment_of, assigned, number_at};
+ghost use Rattle.tf_script.specs.Reader.Tables.{field_of, few_flags, greatest_at, Fit};
+ghost use Rattle.tf_script.specs.Reader.WordViews.{words_of, HasColumns};
 
 use crate::bytes::cut;
+use crate::table::{Named, place};
 use crate::value::{flags, number};
 use crate::word::{Rest, next_word};
 
@@ -17,6 +19,14 @@ pub struct FieldEntry {
     pub greatest: u128,
     /// The names of the field's bits from bit 0 on; none for a field that isn't a set of flags.
     pub flags: &'static [&'static str],
+}
+
+impl Named for FieldEntry {
+    ghost name_of = { λ entry. entry.name.now };
+
+    fn name(&self) -> &[u8] {
+        self.name.as_bytes()
+    }
 }
 
 /// What a word assigns.
@@ -47,16 +57,11 @@ fn value(entry: &FieldEntry, text: &[u8]) -> Option<u128>
 }
 
 /// The place of the first field of that name.
-fn place(table: &[FieldEntry], name: &[u8]) -> Option<usize>
+fn field_place(table: &[FieldEntry], name: &[u8]) -> Option<usize>
     ensures value { result ≡ place_of (names_of (map field_of table.now)) name.now }
     ensures within { IfSome result (λ place. place < length table.now) }
 {
-    for (place, entry) in table.iter().enumerate() {
-        if entry.name.as_bytes() == name {
-            return Some(place);
-        }
-    }
-    None
+    place(table, name)
 }
 
 /// What a word assigns, where values has the numbers assigned before it.
@@ -70,7 +75,7 @@ fn read_assignment(table: &[FieldEntry], values: &[Option<u128>], text: &[u8]) -
 {
     let (name, after) = cut(text, b'=');
     let text = after?;
-    let place = place(table, name)?;
+    let place = field_place(table, name)?;
     if values[place].is_some() {
         return None;
     }

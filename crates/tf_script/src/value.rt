@@ -1,10 +1,11 @@
 //! What a word means as a number, or as a set of flags.
 
 ghost use Rattle.std.specs.Prelude.{◌≡◌, ◌<◌, ◌≤◌, length, IsTrue, IfSome};
-ghost use Rattle.tf_script.specs.Fields.{texts_of};
 ghost use Rattle.tf_script.specs.Values.{is_decimal, decimal, at_most, number_of, bit_of, flags_of};
+ghost use Rattle.tf_script.specs.Reader.Tables.{texts_of};
 
 use crate::bytes::cut;
+use crate::table::place;
 
 /// Whether the text is one or more decimal digits.
 fn is_decimal(text: &[u8]) -> bool
@@ -57,12 +58,8 @@ fn bit(names: &[&str], text: &[u8]) -> Option<u128>
     requires { length names.now < 128 }
     ensures { result ≡ bit_of (texts_of names.now) text.now }
 {
-    for (place, name) in names.iter().enumerate() {
-        if name.as_bytes() == text {
-            return Some(1 << place);
-        }
-    }
-    None
+    let place = place(names, text)?;
+    Some(1 << place)
 }
 
 /// The bits of names joined by `|`.

@@ -1,26 +1,22 @@
 //! Batches over a plain ledger, with and without memory.
 
-use super::{account, transfer};
-use crate::{run_accounts, run_transfers, verdict_account, verdict_transfer};
+use super::{account, empty, failure, linked, pending, post, transfer};
+use crate::{
+    run_accounts, run_transfers, stored_account, stored_transfer, verdict_account, verdict_transfer,
+};
 use linked_list_allocator::LocalHeap;
 use std::test::Fail;
-use tf_journal::{Entry, Ledger, PlainLedger};
-use tf_records::{AMOUNT_MAX, Account, Failure, Outcome, Refusal, TIMESTAMP_MAX, Transfer};
+use tf_journal::{Entry, Ledger};
+use tf_records::{AMOUNT_MAX, Account, Outcome, Refusal, TIMESTAMP_MAX, Transfer};
 
 #[test]
 fn batch_of_accounts_stores_the_good_and_names_the_bad(rt: HostRuntime) -> Result<(), Fail> {
-    let mut ledger = PlainLedger::new(rt.alloc());
+    let mut ledger = empty(rt.alloc());
     let events = [account(1), account(0), account(1), account(2)];
     let reply = run_accounts(rt.alloc(), &mut ledger, &events, 1_000)?;
     let failures = [
-        Failure {
-            index: 1,
-            outcome: Outcome::IdMustNotBeZero,
-        },
-        Failure {
-            index: 2,
-            outcome: Outcome::Exists,
-        },
+        failure(1, Outcome::IdMustNotBeZero),
+        failure(2, Outcome::Exists),
     ];
     assert_eq!(rt; reply.as_slice(), failures.as_slice());
     assert_eq!(rt; ledger.clock(), 1_004);
@@ -44,12 +40,13 @@ fn batch_of_accounts_stores_the_good_and_names_the_bad(rt: HostRuntime) -> Resul
         Outcome::Exists
     );
     assert_eq!(rt; verdict_account(&ledger, 1_005, &account(3)), Outcome::Ok);
+    assert_eq!(rt; stored_account(&ledger, 1_004, &account(2)), last);
     Ok(())
 }
 
 #[test]
 fn batch_of_transfers_moves_amounts_and_names_the_bad(rt: HostRuntime) -> Result<(), Fail> {
-    let mut ledger = PlainLedger::new(rt.alloc());
+    let mut ledger = empty(rt.alloc());
     run_accounts(rt.alloc(), &mut ledger, &[account(1), account(2)], 1_000)?;
     let events = [
         transfer(5, 40),
@@ -59,14 +56,8 @@ fn batch_of_transfers_moves_amounts_and_names_the_bad(rt: HostRuntime) -> Result
     ];
     let reply = run_transfers(rt.alloc(), &mut ledger, &events, 0)?;
     let failures = [
-        Failure {
-            index: 1,
-            outcome: Outcome::OverflowsDebitsPosted,
-        },
-        Failure {
-            index: 2,
-            outcome: Outcome::ExistsWithDifferentAmount,
-        },
+        failure(1, Outcome::OverflowsDebitsPosted),
+        failure(2, Outcome::ExistsWithDifferentAmount),
     ];
     assert_eq!(rt; reply.as_slice(), failures.as_slice());
     assert_eq!(rt; ledger.clock(), 1_006);
@@ -97,12 +88,13 @@ fn batch_of_transfers_moves_amounts_and_names_the_bad(rt: HostRuntime) -> Result
         verdict_transfer(&ledger, 1_007, &transfer(8, 2)),
         Outcome::Ok
     );
+    assert_eq!(rt; stored_transfer(&ledger, 1_006, &transfer(7, 2)), stored);
     Ok(())
 }
 
 #[test]
 fn batch_past_its_limits_is_refused(rt: HostRuntime) -> Result<(), Fail> {
-    let mut ledger = PlainLedger::new(rt.alloc());
+    let mut ledger = empty(rt.alloc());
     let events = [account(0); 8_191];
     let too_large = run_accounts(rt.alloc(), &mut ledger, &events, TIMESTAMP_MAX);
     assert_eq!(rt; too_large.err(), Some(Refusal::BatchTooLarge));
@@ -129,7 +121,7 @@ fn refused_growth_leaves_the_ledger_as_it_was(rt: HostRuntime) -> Result<(), Fai
     let (mut lost_accounts, mut lost_transfers, mut went_through) = (false, false, false);
     for step in 1..60usize {
         let heap = LocalHeap::new(rt.alloc(), step * 64)?;
-        let mut ledger = PlainLedger::new(&heap);
+        let mut ledger = empty(&heap);
         let accounts = [account(1), account(0), account(2)];
         if let Err(refusal) = run_accounts(&heap, &mut ledger, &accounts, 1_000) {
             assert_eq!(rt; refusal, Refusal::NoMemory);
@@ -142,8 +134,10 @@ fn refused_growth_leaves_the_ledger_as_it_was(rt: HostRuntime) -> Result<(), Fai
         let transfers = [
             transfer(5, 1),
             transfer(5, 2),
-            transfer(6, 3),
-            transfer(7, 4),
+            linked(transfer(6, 3)),
+            pending(7, 4),
+            linked(transfer(8, 1)),
+            post(9, 1),
         ];
         if let Err(refusal) = run_transfers(&heap, &mut ledger, &transfers, 0) {
             assert_eq!(rt; refusal, Refusal::NoMemory);
@@ -151,7 +145,7 @@ fn refused_growth_leaves_the_ledger_as_it_was(rt: HostRuntime) -> Result<(), Fai
             assert_eq!(rt; ledger.clock(), 1_003);
             lost_transfers = true;
             // there is still room for one entry
-            let one = run_transfers(&heap, &mut ledger, &[transfer(8, 1)], 0)?;
+            let one = run_transfers(&heap, &mut ledger, &[transfer(10, 1)], 0)?;
             assert!(rt; one.is_empty());
         } else {
             went_through = true;

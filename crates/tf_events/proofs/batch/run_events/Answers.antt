@@ -1,25 +1,81 @@
-use Rattle.std.proofs.Common.{◌+◌, arith, ◌∙◌}
-use Rattle.tf_journal.proofs.JournalLemmas.{up_to_later}
+use Rattle.std.proofs.Common.{◌≡◌, ◌+◌, ◌-◌, ◌<◌, ◌≤◌, ◌∙◌, arith, drop, length, subst, sym, take}
+use Rattle.std.proofs.lemmas.List.{length-drop, take_rest}
+use Rattle.tf_journal.specs.Lawful.{AreChained}
 use Rattle.tf_events.specs.Batch.{chains_of, chains_step, placed}
-use Rattle.tf_events.proofs.BatchLemmas.{extends_more, step_more}
+use Rattle.tf_events.proofs.Chained.{chained_one}
+use Rattle.tf_events.proofs.Cuts.{chain_length-some, chain_length-within, first_chain_length, first_chain_one}
+use Rattle.tf_events.proofs.Left.{extends_more, left_more}
+use Rattle.tf_events.proofs.Stored.{sound_at_later}
 use Rattle.tf_events.proofs.batch.run_events.Goals as goal
 
-pub loop-i-preserved : goal.loop-i-preserved
-loop-i-preserved g c =
-    let journal = g.L.Ledger.journal in
-    let so_far = c.loop-i.invariant in
-    let step = c.in_ok-run_event.ensures in
-    let whole = chains_step g.E.Event.kind (journal c.args.ledger.now) (chains_of (placed 0 (c.args.start + 1) c.args.events.now)) in
-    let more = step_more g.E.Event.kind (journal c.loop-i.ledger) (journal c.run_event.new.ledger) c.args.start c.loop-i.i c.args.events.now
-    c.index-events-i.result c.loop-i.failures.items c.run_event.new.failures.items whole
-    (omega arith) c.index-events-i.is step.stored step.noted so_far.stored so_far.noted in
+pub slice_bounds-run_chain-end : goal.slice_bounds-run_chain-end
+slice_bounds-run_chain-end g c =
+    let rest = take (length c.args.events.now - c.loop-start.start) (drop c.loop-start.start c.args.events.now) in
+    sym (first_chain_length g.E.Event.kind rest c.chain_len-len.result c.chain_len-len.ensures)
+
+pub run_chain-requires-clause-one : goal.run_chain-requires-clause-one
+run_chain-requires-clause-one g c =
+    let rest = take (length c.args.events.now - c.loop-start.start) (drop c.loop-start.start c.args.events.now) in
+    first_chain_one g.E.Event.kind rest c.chain_len-len.result c.chain_len-len.ensures
+
+pub run_chain-requires-clause-some : goal.run_chain-requires-clause-some
+run_chain-requires-clause-some g c =
+    let events = c.args.events.now in
+    let rest = take (length events - c.loop-start.start) (drop c.loop-start.start events) in
+    let same : rest ≡ drop c.loop-start.start events = take_rest events c.loop-start.start in
+    let more : 0 < length rest = subst (λ r. 0 < length r) (sym same) (omega (arith, length-drop c.loop-start.start events)) in
+    omega (arith, chain_length-some g.E.Event.kind rest more, first_chain_length g.E.Event.kind rest c.chain_len-len.result c.chain_len-len.ensures, c.chain_len-len.ensures)
+
+pub overflow_add-start : goal.overflow_add-start
+overflow_add-start g c =
+    let events = c.args.events.now in
+    let rest = take (length events - c.loop-start.start) (drop c.loop-start.start events) in
+    let same : rest ≡ drop c.loop-start.start events = take_rest events c.loop-start.start in
+    let within : c.chain_len-len.result ≤ length (drop c.loop-start.start events) = subst (λ r. c.chain_len-len.result ≤ length r) same
+    (omega (arith, chain_length-within g.E.Event.kind rest, c.chain_len-len.ensures)) in
+    omega (arith, within, length-drop c.loop-start.start events)
+
+pub loop-start-smaller : goal.loop-start-smaller
+loop-start-smaller g c =
+    let events = c.args.events.now in
+    let rest = take (length events - c.loop-start.start) (drop c.loop-start.start events) in
+    let same : rest ≡ drop c.loop-start.start events = take_rest events c.loop-start.start in
+    let more : 0 < length rest = subst (λ r. 0 < length r) (sym same) (omega (arith, length-drop c.loop-start.start events)) in
+    omega (arith, chain_length-some g.E.Event.kind rest more, c.chain_len-len.ensures)
+
+pub loop-start-preserved : goal.loop-start-preserved
+loop-start-preserved g c =
+    let kind = g.E.Event.kind in
+    let keeps = g.met.E.Event.keeps in
+    let first = g.L.Ledger.journal c.args.ledger.now in
+    let journal = g.L.Ledger.journal c.loop-start.ledger in
+    let after = g.L.Ledger.journal c.run_chain.new.ledger in
+    let before = c.args.before in
+    let start = c.loop-start.start in
+    let n = c.chain_len-len.result in
+    let events = c.args.events.now in
+    let rest = take (length events - start) (drop start events) in
+    let so_far = c.loop-start.invariant in
+    let ran = c.in_ok-run_chain.ensures in
+    let same : rest ≡ drop start events = take_rest events start in
+    let within : n ≤ length (drop start events) = subst (λ r. n ≤ length r) same
+    (omega (arith, chain_length-within kind rest, c.chain_len-len.ensures)) in
+    let fits : start + n ≤ length events = omega (arith, within, length-drop start events) in
+    let more : 0 < length rest = subst (λ r. 0 < length r) (sym same) (omega (arith, length-drop start events)) in
+    let some = chain_length-some kind rest more in
+    let whole = chains_step kind first (chains_of kind (placed 0 (before + 1) events)) in
+    let long : length (take n rest) ≡ n = first_chain_length kind rest n c.chain_len-len.ensures in
+    let one = first_chain_one kind rest n c.chain_len-len.ensures in
+    let left = left_more kind journal after before start n events rest c.loop-start.failures.items c.run_chain.new.failures.items whole same
+    c.chain_len-len.ensures ran.step so_far.stored so_far.noted in
     record {
-      stored = more.0;
-      noted = more.1;
-      is_journal = step.journal;
-      lawful = step.lawful;
-      up_to = up_to_later (c.args.start + c.loop-i.i + 1) (c.args.start + (c.loop-i.i + 1)) (journal c.run_event.new.ledger) (omega arith) step.up_to;
-      extends = extends_more (journal c.args.ledger.now) (journal c.loop-i.ledger) (journal c.run_event.new.ledger) so_far.extends step.extends;
-      clock = step.clock_kept ∙ so_far.clock;
-      kept = step.length_kept ∙ so_far.kept;
+      stored = left.0;
+      noted = left.1;
+      within = fits;
+      sound = sound_at_later (before + start + length (take n rest)) (before + (start + n)) after (omega (arith, long)) ran.sound;
+      chained = subst AreChained (sym ran.step.stored)
+          (chained_one kind keeps journal start (before + start + 1) (take n rest) one (omega (arith, long, some, c.chain_len-len.ensures)) so_far.chained);
+      extends = extends_more first journal after so_far.extends ran.goes_on.extends;
+      clock = ran.goes_on.clock ∙ so_far.clock;
+      kept = ran.goes_on.kept ∙ so_far.kept;
     }

@@ -1,8 +1,7 @@
 use Rattle.std.proofs.Common.{◌≡◌, map, take}
 use Rattle.std.specs.Io.KnownBytes.{Appends}
-use Rattle.tf_journal.specs.Journal.{IsJournal, IsUpTo}
-use Rattle.tf_journal.specs.Lawful.{IsLawful}
-use Rattle.tf_script.specs.Commands.{command_view}
+use Rattle.tf_journal.specs.Lawful.{IsLawfulAt}
+use Rattle.tf_script.specs.CommandViews.{command_view}
 use Rattle.tf_main.specs.Script.{answer_of_commands}
 use Rattle.tf_main.proofs.run.run_commands.Given as goal
 
@@ -11,7 +10,5 @@ invariant-loop-command g l = record {
   written : Appends (g.W.Write.contents l.initial.out) (g.W.Write.contents l.out) (answer_of_commands (map command_view (take l.command-index l.commands))).output;
   journal : l.ledger.entries.items ≡ (answer_of_commands (map command_view (take l.command-index l.commands))).journal;
   clock : l.ledger.clock ≡ (answer_of_commands (map command_view (take l.command-index l.commands))).clock;
-  rising : IsJournal l.ledger.entries.items;
-  lawful : IsLawful l.ledger.entries.items;
-  up_to : IsUpTo l.ledger.clock l.ledger.entries.items;
+  lawful : IsLawfulAt l.ledger.clock l.ledger.entries.items;
 }

@@ -1,6 +1,7 @@
 use Rattle.std.proofs.Common.{◌≡◌, length, map}
-use Rattle.tf_script.specs.WordViews.{words_of, HasColumns}
-use Rattle.tf_script.specs.Fields.{field_of, assigned, Fit}
+use Rattle.tf_script.specs.Reader.WordViews.{words_of, HasColumns}
+use Rattle.tf_script.specs.Fields.{assigned}
+use Rattle.tf_script.specs.Reader.Tables.{field_of, Fit}
 use Rattle.tf_script.proofs.field.assign.Given as goal
 
 abbrev pub invariant-loop-word : goal.invariant-loop-word

@@ -1,6 +1,6 @@
 use Rattle.std.proofs.Common.{sym, ap, ◌∙◌, bit_or}
 use Rattle.std.specs.List.{slice_split}
-use Rattle.tf_script.specs.Fields.{texts_of}
+use Rattle.tf_script.specs.Reader.Tables.{texts_of}
 use Rattle.tf_script.specs.Values.{bit_of, bits_with, flags_of}
 use Rattle.tf_script.proofs.ValueLemmas.{is_bar, bits_with-unknown, bits_with-more, bits_with-last}
 use Rattle.tf_script.proofs.value.flags.Goals as goal

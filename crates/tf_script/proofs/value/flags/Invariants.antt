@@ -1,6 +1,6 @@
 use Rattle.std.proofs.Common.{◌≡◌, length}
 use Rattle.std.specs.List.{slice_split}
-use Rattle.tf_script.specs.Fields.{texts_of}
+use Rattle.tf_script.specs.Reader.Tables.{texts_of}
 use Rattle.tf_script.specs.Values.{bits_with}
 use Rattle.tf_script.proofs.ValueLemmas.{is_bar}
 use Rattle.tf_script.proofs.value.flags.Given as goal
