@@ -91,10 +91,10 @@ fn run_batch<E: Event, L: Ledger, A: Allocator>(
 
 /// Runs a batch of accounts: event i of n gets the timestamp of the later of the clock and `now`, plus i + 1.
 /// The batch is cut into chains: a linked event stands or falls with the next one. Each event is judged after
-/// all that is stored and the events before it in its chain. If all events of a chain are ok, all are stored,
-/// else none: the first that fails has its own result, the others `linked_event_failed`, and the last event of
-/// the batch, where it is linked, `linked_event_chain_open`. The clock moves by n, also where events failed.
-/// The reply names the events that weren't stored.
+/// all that is stored and the events before it in its chain. If all events of a chain are ok and the batch
+/// doesn't end within it, all are stored, else none: the first that fails has its own result, the others
+/// `linked_event_failed`, and the last event of the batch, where it is linked, `linked_event_chain_open`. The
+/// clock moves by n, also where events failed. The reply names the events that weren't stored.
 ///
 /// Times are nanoseconds. [`Refusal::BatchTooLarge`]: more than [`BATCH_MAX`] events, which is tested first;
 /// [`Refusal::ClockExhausted`]: the clock would pass [`TIMESTAMP_MAX`]; [`Refusal::NoMemory`]. After a refusal

@@ -1,4 +1,5 @@
--- Lawful journals: each entry is there because an event was accepted, or a pending transfer's time was over.
+-- Lawful journals: each entry is there because an event was accepted or failed for a passing reason, or because
+-- a pending transfer's time was over.
 use Rattle.std.specs.Prelude.{◌≡◌, ℕ, ◌+◌, ◌-◌, ◌<◌, List, [], ◌∷◌, ◌++◌, Some, None, Bool, true, false, ⊤}
 use Rattle.tf_records.specs.declared.account.Account.{Account}
 use Rattle.tf_records.specs.declared.transfer.Transfer.{Transfer}

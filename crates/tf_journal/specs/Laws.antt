@@ -1,4 +1,4 @@
--- Laws of lawful journals, in the terms of whoever keeps a ledger.
+-- Laws of sound journals, in the terms of whoever keeps a ledger.
 use Rattle.std.specs.Prelude.{◌≡◌, ◌≢◌, ℕ, ◌+◌, ◌≤◌, List, Option, Some, None, Bool, true, ◌||◌}
 use Rattle.std.specs.List.{All, AllPairs, filter_map, sum_by, count_by}
 use Rattle.tf_records.specs.declared.account.Account.{Account}

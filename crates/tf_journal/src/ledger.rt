@@ -21,19 +21,19 @@ pub struct Mark {
 
 /// A journal, a clock and a kept length, in some representation.
 ///
-/// Entries are added one by one and can be undone, last first, back to what was last kept. The clock
-/// is the last timestamp that was given out, 0 at first. Times are nanoseconds.
+/// Entries are added one by one and can be undone, last first, back to what was last kept. Timestamps are
+/// given out after the clock, which is 0 at first. Times are nanoseconds.
 pub trait Ledger {
     /// The entries, by rising timestamp.
     ghost journal: { Self → List Entry };
 
-    /// The last timestamp that was given out.
+    /// The moment after which the next timestamps are given out.
     ghost clock: { Self → ℕ };
 
     /// How many entries stand for good.
     ghost kept: { Self → ℕ };
 
-    /// The last timestamp that was given out, 0 at first. Takes no memory.
+    /// The moment after which the next timestamps are given out, 0 at first. Takes no memory.
     fn clock(&self) -> u64
         ensures { result ≡ clock self.now };
 

@@ -10,9 +10,10 @@ use crate::{Entry, IdUse, Ledger, Mark, Status};
 use std::alloc::Allocator;
 use tf_records::{Account, Refusal, Transfer};
 
-/// The plain ledger: the list of its entries and nothing else. Each look-up and each sum walks over
-/// the whole list, so a call takes time in proportion to its length, times the number of posts, voids and
-/// expiries for an account's balances; `clock`, `mark` and `keep` take none.
+/// The plain ledger: the list of its entries and nothing else. Each look-up walks over the whole list, so a
+/// call takes time in proportion to its length. An account is shown by one pass, with a walk more for each of
+/// its posts and voids, for each expiry, and for each transfer that may close it; `next_due` and `due_count`
+/// walk once more for each transfer whose status they look at. `clock`, `mark` and `keep` take no walk.
 #[derive(Drop)]
 pub struct PlainLedger<A: Allocator> {
     entries: Vec<Entry, A>,

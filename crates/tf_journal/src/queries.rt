@@ -44,8 +44,8 @@ pub fn get_account_transfers<A: Allocator, B: Allocator>(
 /// The balances of an account right after each transfer that [`get_account_transfers`] gives, each with that
 /// transfer's timestamp: of a stored account with the flag `HISTORY` alone, else nothing.
 ///
-/// Refused as there. Takes a walk over the journal for each row, and memory for the rows. Restates the reference
-/// page get_account_balances.
+/// Refused as there. Takes for each row what an account's balances cost (see [`PlainLedger`]), and memory for
+/// the rows. Restates the reference page get_account_balances.
 pub fn get_account_balances<A: Allocator, B: Allocator>(
     alloc: A,
     ledger: &PlainLedger<B>,
@@ -66,8 +66,9 @@ pub fn get_account_balances<A: Allocator, B: Allocator>(
 
 /// The accounts that a filter asks for, each with its balances of now, and marked as closed where it is.
 ///
-/// Their order, number and refusals are those of [`get_account_transfers`]. Takes a walk over the journal, and
-/// one more for each row, and memory for the rows. Restates the reference page query_accounts.
+/// Their order, number and refusals are those of [`get_account_transfers`]. Takes a walk over the journal, for
+/// each row what showing an account costs (see [`PlainLedger`]), and memory for the rows. Restates the reference
+/// page query_accounts.
 pub fn query_accounts<A: Allocator, B: Allocator>(
     alloc: A,
     ledger: &PlainLedger<B>,
@@ -102,8 +103,8 @@ pub fn query_transfers<A: Allocator, B: Allocator>(
 /// where it is. An id under which nothing is stored gives no row, and a repeated id gives its row again.
 ///
 /// More than `BATCH_MAX` ids are [`Refusal::BatchTooLarge`], before any memory is taken; else the only refusal is
-/// [`Refusal::NoMemory`]. Takes two walks over the journal for each id, and memory for the rows. Restates the
-/// reference page lookup_accounts.
+/// [`Refusal::NoMemory`]. Takes for each id a walk over the journal and what showing an account costs (see
+/// [`PlainLedger`]), and memory for the rows. Restates the reference page lookup_accounts.
 pub fn lookup_accounts<A: Allocator, B: Allocator>(
     alloc: A,
     ledger: &PlainLedger<B>,

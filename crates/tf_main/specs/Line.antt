@@ -35,11 +35,11 @@ clock_line clock = number_line (codes "clock") clock
 abbrev pub expired_line : ℕ → List ℕ
 expired_line count = number_line (codes "expired") count
 
--- `published`: a publish was carried out
+-- `published`: the answer of `publish`
 abbrev pub published_line : List ℕ
 published_line = text_line (codes "published")
 
--- `compacted`: a compaction was carried out
+-- `compacted`: the answer of `compact`
 abbrev pub compacted_line : List ℕ
 compacted_line = text_line (codes "compacted")
 

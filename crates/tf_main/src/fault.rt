@@ -9,6 +9,6 @@ pub enum RunFault {
     NoMemory,
     /// The script's first fault, its place counted from 1. Nothing was run and nothing written.
     BadLine { line: u64, column: u64 },
-    /// The writer failed. How much it took isn't known.
+    /// The writer failed. What was written is a part of the answer, from its first byte on and not the whole.
     CannotWrite(io::Error),
 }

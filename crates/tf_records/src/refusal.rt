@@ -8,7 +8,7 @@ use thiserror::Error;
 
 /// A refused call. It left everything as it was.
 ///
-/// The text of each is what a script prints of it. A result of an event is no refusal: it stands in
+/// The text of each names it. A result of an event is no refusal: it stands in
 /// the reply.
 #[derive(Clone, Copy, Debug, PartialEq, Eq, Error)]
 pub enum Refusal {

@@ -27,9 +27,9 @@ pub enum Command<A: Allocator> {
         /// The most transfers that it expires.
         max: u32,
     },
-    /// What is stored so far is published.
+    /// Asks for a publish of what is stored so far.
     Publish,
-    /// Each row's tables are merged until none has a merge to do.
+    /// Asks for a compaction: merges of each row's tables until none has one to do.
     Compact,
     /// A query.
     Query(Query),

@@ -295,7 +295,7 @@ pub const RECIPES: [Row; 12] = [
              query_accounts user_data_128=77 ledger=840 limit=10\n\
              # The newest transfer of February.\n\
              query_transfers user_data_64=202602 limit=1 flags=reversed\n\
-             # From the second transfer on.\n\
+             # Of code 1, from the second transfer on.\n\
              query_transfers code=1 timestamp_min=2002 limit=10\n\
              # Records by their ids, in the order asked; ids that aren't stored have no row.\n\
              lookup_transfers 802 9 800\n",
