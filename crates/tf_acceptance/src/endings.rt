@@ -125,6 +125,49 @@ fn writer_that_fails_ends_the_run(rt: HostRuntime) {
     assert!(rt; out.taken.as_slice() == ANSWER.as_bytes());
 }
 
+/// A writer that takes so many bytes, then fails once, and takes all bytes from then on.
+#[derive(Drop)]
+struct FailsOnce {
+    taken: Vec<u8>,
+    room: usize,
+    has_failed: bool,
+}
+
+impl Write for FailsOnce {
+    fn write(&mut self, buf: &[u8]) -> io::Result<usize> {
+        if self.has_failed {
+            self.taken.extend_from_slice(buf)?;
+            return Ok(buf.len());
+        }
+        let count = buf.len().min(self.room);
+        if count == 0 {
+            self.has_failed = true;
+            return Err(io::Error::from(io::ErrorKind::StorageFull));
+        }
+        self.taken.extend_from_slice(&buf[..count])?;
+        self.room -= count;
+        Ok(count)
+    }
+
+    fn flush(&mut self) -> io::Result<()> {
+        Ok(())
+    }
+}
+
+#[test]
+fn nothing_is_written_after_a_failure(rt: HostRuntime) {
+    for room in 0..ANSWER.len() {
+        let mut out = FailsOnce {
+            taken: Vec::new(rt.alloc()),
+            room,
+            has_failed: false,
+        };
+        let outcome = run_script(rt.alloc(), SCRIPT.as_bytes(), &mut out);
+        assert!(rt; outcome.is_err(), "room for {room}");
+        assert!(rt; out.taken.as_slice() == &ANSWER.as_bytes()[..room]);
+    }
+}
+
 #[test]
 fn want_of_memory_leaves_whole_answers(rt: HostRuntime) -> Result<(), Fail> {
     let mut answered = 0u32;

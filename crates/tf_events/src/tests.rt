@@ -3,6 +3,7 @@
 
 mod batches;
 mod chains;
+mod memory;
 mod sizes;
 mod tables;
 

@@ -296,3 +296,30 @@ fn pulse_without_memory_changes_nothing(rt: HostRuntime) -> Result<(), Fail> {
     assert!(rt; refused && expired);
     Ok(())
 }
+
+/// Each request for memory refused in turn, and the same pulse again with memory.
+#[test]
+fn refused_pulse_answers_as_it_would_have(rt: HostRuntime) -> Result<(), Fail> {
+    let (mut refused, mut went_through) = (0u32, 0u32);
+    for step in 0..256usize {
+        let heap = LocalHeap::new(rt.alloc(), 4_096)?;
+        let mut ledger = ledger_with_closed(&heap)?;
+        let Ok(ballast) = Vec::<u8, _>::with_capacity(&heap, 4_096 - step * 16) else {
+            continue;
+        };
+        let outcome = pulse(&mut ledger, 2 * SECOND + 3, 10);
+        drop(ballast);
+        if let Err(refusal) = outcome {
+            assert_eq!(rt; refusal, Refusal::NoMemory);
+            assert_eq!(rt; (ledger.clock(), ledger.mark().length), (4, 4));
+            refused = refused.saturating_add(1);
+            assert_eq!(rt; pulse(&mut ledger, 2 * SECOND + 3, 10)?, 2);
+        } else {
+            went_through = went_through.saturating_add(1);
+        }
+        assert_eq!(rt; (ledger.clock(), ledger.mark().length), (2 * SECOND + 5, 6));
+        assert_eq!(rt; ledger.status(4), Some(Status::Expired));
+    }
+    assert!(rt; refused > 2 && went_through > 2);
+    Ok(())
+}
