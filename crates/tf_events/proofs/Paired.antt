@@ -10,8 +10,8 @@ use Rattle.tf_journal.specs.declared.side.Side.TheVariants.{Debit, Credit}
 use Rattle.tf_journal.specs.Balances.{greatest_amount, pending_on, posted_on}
 use Rattle.tf_journal.specs.Flags.{is_marked_closed, is_pending, limits_credits, limits_debits}
 use Rattle.tf_journal.specs.Journal.{last_timestamp}
-use Rattle.tf_journal.specs.Lookup.{account_of, is_closed_at, stored_account_of}
-use Rattle.tf_journal.specs.Verdict.{accounts_faults, expiry_of, first_fault, has_limit, ledger_of}
+use Rattle.tf_journal.specs.Lookup.{shown_with_id, is_closed_at, account_with_id}
+use Rattle.tf_journal.specs.Verdict.{sides_faults, expiry_of, first_fault, has_limit, ledger_of}
 use Rattle.tf_journal.proofs.ShownAccount.{read_off}
 use Rattle.tf_journal.proofs.Tables.{fault_early, fault_later}
 use Rattle.tf_events.specs.Moving.{ledger_faults, limit_faults, sum_faults}
@@ -48,7 +48,7 @@ table timestamp e debit credit =
 
 abbrev debit_asked : List Entry → ℕ → Asked
 debit_asked journal id = record {
-  missing = is_none (stored_account_of journal id);
+  missing = is_none (account_with_id journal id);
   ledger = ledger_of journal id;
   closed = is_closed_at journal id;
   pending = pending_on journal Debit id;
@@ -59,7 +59,7 @@ debit_asked journal id = record {
 
 abbrev credit_asked : List Entry → ℕ → Asked
 credit_asked journal id = record {
-  missing = is_none (stored_account_of journal id);
+  missing = is_none (account_with_id journal id);
   ledger = ledger_of journal id;
   closed = is_closed_at journal id;
   pending = pending_on journal Credit id;
@@ -96,18 +96,18 @@ credit_shown account = record {
   limited = limits_credits account;
 }
 
-debit_read : (journal : List Entry) (id : ℕ) (account : Account) → account_of journal id ≡ Some account → debit_asked journal id ≡ debit_shown account
+debit_read : (journal : List Entry) (id : ℕ) (account : Account) → shown_with_id journal id ≡ Some account → debit_asked journal id ≡ debit_shown account
 debit_read journal id account is =
     let r = read_off journal id account is in
     asked_same _ _ _ _ _ _ _ _ _ _ _ _ _ _ r.is_stored r.ledger r.closed r.debits_pending r.debits_posted r.credits_posted r.debit_limit
 
-credit_read : (journal : List Entry) (id : ℕ) (account : Account) → account_of journal id ≡ Some account → credit_asked journal id ≡ credit_shown account
+credit_read : (journal : List Entry) (id : ℕ) (account : Account) → shown_with_id journal id ≡ Some account → credit_asked journal id ≡ credit_shown account
 credit_read journal id account is =
     let r = read_off journal id account is in
     asked_same _ _ _ _ _ _ _ _ _ _ _ _ _ _ r.is_stored r.ledger r.closed r.credits_pending r.credits_posted r.debits_posted r.credit_limit
 
 accounts_table : (journal : List Entry) (timestamp : ℕ) (e : Transfer)
-    → accounts_faults journal timestamp e ≡ table timestamp e (debit_asked journal e.debit_account_id) (credit_asked journal e.credit_account_id)
+    → sides_faults journal timestamp e ≡ table timestamp e (debit_asked journal e.debit_account_id) (credit_asked journal e.credit_account_id)
 unfolding table
 accounts_table journal timestamp e = refl
 
@@ -119,8 +119,8 @@ shown_table timestamp e debit credit = refl
 
 -- of two stored accounts, the table's fault is that of the three tables of the shown accounts, one after another
 paired : (journal : List Entry) (timestamp : ℕ) (e : Transfer) (debit credit : Account)
-    → account_of journal e.debit_account_id ≡ Some debit → account_of journal e.credit_account_id ≡ Some credit
-    → first_fault (accounts_faults journal timestamp e)
+    → shown_with_id journal e.debit_account_id ≡ Some debit → shown_with_id journal e.credit_account_id ≡ Some credit
+    → first_fault (sides_faults journal timestamp e)
     ≡ first_fault (ledger_faults debit credit e ++ (sum_faults debit credit e ++ limit_faults timestamp debit credit e))
 paired journal timestamp e debit credit debit_is credit_is =
     ap first_fault (accounts_table journal timestamp e)
@@ -130,25 +130,25 @@ paired journal timestamp e debit credit debit_is credit_is =
 
 -- the first of the three that has a fault
 pub paired_ledger : (journal : List Entry) (timestamp : ℕ) (e : Transfer) (debit credit : Account) (fault : Outcome)
-    → account_of journal e.debit_account_id ≡ Some debit → account_of journal e.credit_account_id ≡ Some credit
-    → first_fault (ledger_faults debit credit e) ≡ Some fault → first_fault (accounts_faults journal timestamp e) ≡ Some fault
+    → shown_with_id journal e.debit_account_id ≡ Some debit → shown_with_id journal e.credit_account_id ≡ Some credit
+    → first_fault (ledger_faults debit credit e) ≡ Some fault → first_fault (sides_faults journal timestamp e) ≡ Some fault
 paired_ledger journal timestamp e debit credit fault debit_is credit_is is =
     paired journal timestamp e debit credit debit_is credit_is
     ∙ fault_early (ledger_faults debit credit e) (sum_faults debit credit e ++ limit_faults timestamp debit credit e) fault is
 
 pub paired_sum : (journal : List Entry) (timestamp : ℕ) (e : Transfer) (debit credit : Account) (fault : Outcome)
-    → account_of journal e.debit_account_id ≡ Some debit → account_of journal e.credit_account_id ≡ Some credit
+    → shown_with_id journal e.debit_account_id ≡ Some debit → shown_with_id journal e.credit_account_id ≡ Some credit
     → first_fault (ledger_faults debit credit e) ≡ None → first_fault (sum_faults debit credit e) ≡ Some fault
-    → first_fault (accounts_faults journal timestamp e) ≡ Some fault
+    → first_fault (sides_faults journal timestamp e) ≡ Some fault
 paired_sum journal timestamp e debit credit fault debit_is credit_is none is =
     paired journal timestamp e debit credit debit_is credit_is
     ∙ fault_later (ledger_faults debit credit e) (sum_faults debit credit e ++ limit_faults timestamp debit credit e) none
     ∙ fault_early (sum_faults debit credit e) (limit_faults timestamp debit credit e) fault is
 
 pub paired_limit : (journal : List Entry) (timestamp : ℕ) (e : Transfer) (debit credit : Account)
-    → account_of journal e.debit_account_id ≡ Some debit → account_of journal e.credit_account_id ≡ Some credit
+    → shown_with_id journal e.debit_account_id ≡ Some debit → shown_with_id journal e.credit_account_id ≡ Some credit
     → first_fault (ledger_faults debit credit e) ≡ None → first_fault (sum_faults debit credit e) ≡ None
-    → first_fault (accounts_faults journal timestamp e) ≡ first_fault (limit_faults timestamp debit credit e)
+    → first_fault (sides_faults journal timestamp e) ≡ first_fault (limit_faults timestamp debit credit e)
 paired_limit journal timestamp e debit credit debit_is credit_is no_ledger no_sum =
     paired journal timestamp e debit credit debit_is credit_is
     ∙ fault_later (ledger_faults debit credit e) (sum_faults debit credit e ++ limit_faults timestamp debit credit e) no_ledger

@@ -159,6 +159,27 @@ left_sound kind keeps before moment journal (Some o) sound grows later after wit
     (All-weaker (λ e. timestamp_of e ≡ o.timestamp) (λ e. before < timestamp_of e) (λ e p. omega (arith, p, after)) left at)
     (All-weaker (λ e. timestamp_of e ≡ o.timestamp) (λ e. timestamp_of e ≤ moment) (λ e p. omega (arith, p, within)) left at)
 
+-- what the failed event leaves can be stored on the journal that was gone back to
+pub left_can_follow : {E : Type 0} (kind : Kind E) (keeps : KeepsEvents kind) (before moment : ℕ) (journal stored back : List Entry) (n : ℕ) (own : Option (OwnFault E))
+    → IsSoundAt before journal → All (IsAdmitted journal) (entries_left kind (option_map own_failure_of own))
+    → IfSome own (λ o. before < o.timestamp) → IfSome own (λ o. o.timestamp ≤ moment) → moment ≤ last_timestamp
+    → back ≡ take n stored → n ≡ length journal → Extends journal stored
+    → All (CanGrow back) (entries_left kind (option_map own_failure_of own))
+left_can_follow kind keeps before moment journal stored back n own sound admitted later earlier in_range cut present extends =
+    subst (λ j. All (CanGrow j) (entries_left kind (option_map own_failure_of own))) (sym (cut ∙ cut_back journal stored n present extends))
+    (left_grows kind keeps before moment journal own sound admitted later earlier in_range)
+
+-- and that journal is sound with it
+pub left_stands : {E : Type 0} (kind : Kind E) (keeps : KeepsEvents kind) (before moment : ℕ) (journal stored back left : List Entry) (n : ℕ) (own : Option (OwnFault E))
+    → IsSoundAt before journal → All (IsAdmitted journal) (entries_left kind (option_map own_failure_of own))
+    → IfSome own (λ o. before < o.timestamp) → IfSome own (λ o. o.timestamp ≤ moment) → moment ≤ last_timestamp → before ≤ moment
+    → back ≡ take n stored → n ≡ length journal → Extends journal stored → left ≡ back ++ entries_left kind (option_map own_failure_of own)
+    → IsSoundAt moment left
+left_stands kind keeps before moment journal stored back left n own sound admitted later earlier in_range rises cut present extends is =
+    let grows = left_grows kind keeps before moment journal own sound admitted later earlier in_range in
+    subst (IsSoundAt moment) (sym (is ∙ ap (λ j. j ++ entries_left kind (option_map own_failure_of own)) (cut ∙ cut_back journal stored n present extends)))
+    (left_sound kind keeps before moment journal own sound grows rises later earlier)
+
 pub on_ok : {X F : Type 0} {P : Type 0} (r : Result X F) → P → OnOk r P
 on_ok (Ok x) p = p
 on_ok (Err f) p = tt

@@ -10,8 +10,8 @@ use Rattle.tf_journal.specs.declared.entry.Entry.TheVariants as entry
 use Rattle.tf_journal.specs.Flags.{is_linked, is_settling}
 use Rattle.tf_journal.specs.Journal.{timestamp_of}
 use Rattle.tf_journal.specs.Lawful.{is_linked_entry}
-use Rattle.tf_journal.specs.Lookup.{transfer_of}
-use Rattle.tf_journal.specs.Stored.{stamped, stored_settling, stored_transfer}
+use Rattle.tf_journal.specs.Lookup.{transfer_with_id}
+use Rattle.tf_journal.specs.Stored.{stamped, settled, stored_transfer}
 use Rattle.tf_journal.specs.Verdict.{is_transient}
 use Rattle.tf_events.specs.Chain.{accounts, transfers}
 use Rattle.tf_events.specs.Walk.{KeepsEvents}
@@ -28,17 +28,17 @@ accounts_keep = record {
 
 -- a stored transfer has its timestamp and the event's flags
 pub stored_timestamp : (journal : List Entry) (timestamp : ℕ) (e : Transfer) → (stored_transfer journal timestamp e).timestamp ≡ timestamp
-stored_timestamp journal timestamp e = go (is_settling e) (transfer_of journal e.pending_id) where
+stored_timestamp journal timestamp e = go (is_settling e) (transfer_with_id journal e.pending_id) where
   go : (settling : Bool) (pending : Option Transfer)
-      → (if settling then option_map_or (λ p. stored_settling p timestamp e) pending (stamped timestamp e) else stamped timestamp e).timestamp ≡ timestamp
+      → (if settling then option_map_or (λ p. settled p timestamp e) pending (stamped timestamp e) else stamped timestamp e).timestamp ≡ timestamp
   go true (Some p) = refl
   go true None = refl
   go false pending = refl
 
 stored_flags : (journal : List Entry) (timestamp : ℕ) (e : Transfer) → (stored_transfer journal timestamp e).flags ≡ e.flags
-stored_flags journal timestamp e = go (is_settling e) (transfer_of journal e.pending_id) where
+stored_flags journal timestamp e = go (is_settling e) (transfer_with_id journal e.pending_id) where
   go : (settling : Bool) (pending : Option Transfer)
-      → (if settling then option_map_or (λ p. stored_settling p timestamp e) pending (stamped timestamp e) else stamped timestamp e).flags ≡ e.flags
+      → (if settling then option_map_or (λ p. settled p timestamp e) pending (stamped timestamp e) else stamped timestamp e).flags ≡ e.flags
   go true (Some p) = refl
   go true None = refl
   go false pending = refl

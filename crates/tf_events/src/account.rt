@@ -5,7 +5,7 @@ ghost use Rattle.tf_journal.specs.Stored as record_of;
 ghost use Rattle.tf_journal.specs.Flags.{has_reserved_account_flag, limits_credits, limits_debits};
 ghost use Rattle.tf_journal.specs.Verdict.{account_differences, account_faults, account_verdict, first_fault, repeated};
 
-use tf_journal::Ledger;
+use tf_journal::{Ledger, has_flag};
 use tf_records::{Account, ID_MAX, Outcome};
 
 /// The verdict on an account event: the outcome of the first rule that it breaks, else [`Outcome::Ok`].
@@ -40,15 +40,15 @@ pub fn stored_account<L: Ledger>(ledger: &L, timestamp: u64, event: &Account) ->
 fn has_reserved_flag(event: &Account) -> bool
     ensures { result ≡ has_reserved_account_flag event.now }
 {
-    event.flags & Account::IMPORTED != 0 || event.flags >= 2 * Account::CLOSED
+    has_flag(event.flags, Account::IMPORTED) || event.flags >= 2 * Account::CLOSED
 }
 
 /// Whether an account has both limits.
 fn has_both_limits(event: &Account) -> bool
     ensures { result ≡ (limits_debits event.now && limits_credits event.now) }
 {
-    event.flags & Account::DEBITS_MUST_NOT_EXCEED_CREDITS != 0
-        && event.flags & Account::CREDITS_MUST_NOT_EXCEED_DEBITS != 0
+    has_flag(event.flags, Account::DEBITS_MUST_NOT_EXCEED_CREDITS)
+        && has_flag(event.flags, Account::CREDITS_MUST_NOT_EXCEED_DEBITS)
 }
 
 /// What is wrong with an account event by itself.

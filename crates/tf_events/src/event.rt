@@ -10,7 +10,7 @@ ghost use Rattle.tf_events.specs.Walk.{IsAccepted, IsRefused, KeepsEvents};
 use crate::account::{stored_account, verdict_account};
 use crate::fits::{fitting_account, fitting_transfer};
 use crate::transfer::judge_transfer;
-use tf_journal::{Entry, Ledger};
+use tf_journal::{Entry, Ledger, has_flag};
 use tf_records::{Account, Outcome, Transfer};
 
 /// An event of a batch: how it is judged, and as which entry it is stored.
@@ -42,7 +42,7 @@ impl Event for Account {
     ghost kind = { accounts };
 
     fn is_linked(&self) -> bool {
-        self.flags & Account::LINKED != 0
+        has_flag(self.flags, Account::LINKED)
     }
 
     fn judge<L: Ledger>(&self, ledger: &L, timestamp: u64) -> Result<Entry, Outcome> {
@@ -68,7 +68,7 @@ impl Event for Transfer {
     ghost kind = { transfers };
 
     fn is_linked(&self) -> bool {
-        self.flags & Transfer::LINKED != 0
+        has_flag(self.flags, Transfer::LINKED)
     }
 
     fn judge<L: Ledger>(&self, ledger: &L, timestamp: u64) -> Result<Entry, Outcome> {

@@ -2,13 +2,11 @@
 
 ghost use Rattle.std.specs.Prelude.{◌≡◌, ◌+◌, nat_lt, false, Some};
 ghost use Rattle.tf_journal.specs.Balances.{greatest_amount};
-ghost use Rattle.tf_journal.specs.Flags.{is_marked_closed, is_settling};
-ghost use Rattle.tf_journal.specs.Flags as flag;
-ghost use Rattle.tf_journal.specs.Journal.{last_timestamp};
-ghost use Rattle.tf_journal.specs.Verdict.{accounts_faults, expiry_of, first_fault, moving_faults, transfer_verdict};
+ghost use Rattle.tf_journal.specs.Flags.{is_settling};
+ghost use Rattle.tf_journal.specs.Verdict.{sides_faults, first_fault, moving_faults, transfer_verdict};
 ghost use Rattle.tf_events.specs.Moving.{ledger_faults, limit_faults, sum_faults};
 
-use tf_journal::Ledger;
+use tf_journal::{Ledger, expiry_of, has_flag, is_marked_closed, is_pending};
 use tf_pending::{transfer_fault, used_id_fault};
 use tf_records::{AMOUNT_MAX, Account, ID_MAX, Outcome, TIMESTAMP_MAX, Transfer};
 
@@ -29,14 +27,7 @@ pub fn verdict_moving<L: Ledger>(ledger: &L, timestamp: u64, event: &Transfer) -
     if let Some(fault) = used_id_fault(ledger, event) {
         return fault;
     }
-    accounts_fault(ledger, timestamp, event).unwrap_or(Outcome::Ok)
-}
-
-/// Whether a transfer is pending.
-fn is_pending(event: &Transfer) -> bool
-    ensures { result ≡ flag.is_pending event.now }
-{
-    event.flags & Transfer::PENDING != 0
+    sides_fault(ledger, timestamp, event).unwrap_or(Outcome::Ok)
 }
 
 /// What is wrong by itself with a transfer that moves an amount.
@@ -67,8 +58,8 @@ fn moving_fault(event: &Transfer) -> Option<Outcome>
 }
 
 /// What keeps the accounts of a moving transfer from taking it.
-fn accounts_fault<L: Ledger>(ledger: &L, timestamp: u64, event: &Transfer) -> Option<Outcome>
-    ensures { result ≡ first_fault (accounts_faults (L.journal ledger.now) timestamp event.now) }
+fn sides_fault<L: Ledger>(ledger: &L, timestamp: u64, event: &Transfer) -> Option<Outcome>
+    ensures { result ≡ first_fault (sides_faults (L.journal ledger.now) timestamp event.now) }
 {
     let Some(debit) = ledger.account(event.debit_account_id) else {
         return Some(Outcome::DebitAccountNotFound);
@@ -85,13 +76,6 @@ fn accounts_fault<L: Ledger>(ledger: &L, timestamp: u64, event: &Transfer) -> Op
     limit_fault(timestamp, &debit, &credit, event)
 }
 
-/// Whether an account, as answers show it, is closed.
-fn is_closed(account: &Account) -> bool
-    ensures { result ≡ is_marked_closed account.now }
-{
-    account.flags & Account::CLOSED != 0
-}
-
 /// Whether the accounts are of another ledger, or closed.
 fn ledger_fault(debit: &Account, credit: &Account, event: &Transfer) -> Option<Outcome>
     ensures { result ≡ first_fault (ledger_faults debit.now credit.now event.now) }
@@ -100,9 +84,9 @@ fn ledger_fault(debit: &Account, credit: &Account, event: &Transfer) -> Option<O
         Some(Outcome::AccountsMustHaveTheSameLedger)
     } else if event.ledger != debit.ledger {
         Some(Outcome::TransferMustHaveTheSameLedgerAsAccounts)
-    } else if is_closed(debit) {
+    } else if is_marked_closed(debit) {
         Some(Outcome::DebitAccountAlreadyClosed)
-    } else if is_closed(credit) {
+    } else if is_marked_closed(credit) {
         Some(Outcome::CreditAccountAlreadyClosed)
     } else {
         None
@@ -159,13 +143,6 @@ fn sum_fault(debit: &Account, credit: &Account, event: &Transfer) -> Option<Outc
     }
 }
 
-/// Whether a pending transfer with this timestamp and timeout, in seconds, expires after the greatest timestamp.
-fn expires_too_late(timestamp: u64, timeout: u32) -> bool
-    ensures { result ≡ nat_lt last_timestamp (expiry_of timestamp timeout) }
-{
-    u128::from(timestamp) + u128::from(timeout) * 1_000_000_000 > u128::from(TIMESTAMP_MAX)
-}
-
 /// Whether the transfer would expire too late, or an account pass its limit.
 fn limit_fault(
     timestamp: u64,
@@ -176,9 +153,9 @@ fn limit_fault(
     ensures { result ≡ first_fault (limit_faults timestamp debit.now credit.now event.now) }
 {
     let amount = event.amount;
-    if event.timeout != 0 && expires_too_late(timestamp, event.timeout) {
+    if event.timeout != 0 && expiry_of(timestamp, event.timeout) > u128::from(TIMESTAMP_MAX) {
         Some(Outcome::OverflowsTimeout)
-    } else if debit.flags & Account::DEBITS_MUST_NOT_EXCEED_CREDITS != 0
+    } else if has_flag(debit.flags, Account::DEBITS_MUST_NOT_EXCEED_CREDITS)
         && exceeds(
             debit.credits_posted,
             debit.debits_pending,
@@ -187,7 +164,7 @@ fn limit_fault(
         )
     {
         Some(Outcome::ExceedsCredits)
-    } else if credit.flags & Account::CREDITS_MUST_NOT_EXCEED_DEBITS != 0
+    } else if has_flag(credit.flags, Account::CREDITS_MUST_NOT_EXCEED_DEBITS)
         && exceeds(
             credit.debits_posted,
             credit.credits_pending,

@@ -7,8 +7,8 @@ ghost use Rattle.tf_journal.specs.Verdict.{transfer_verdict};
 ghost use Rattle.tf_pending.specs.Judgement.{IsJudgement};
 
 use crate::moving::verdict_moving;
-use tf_journal::Ledger;
-use tf_pending::{is_settling, judge_settling, stored_settling, verdict_settling};
+use tf_journal::{Ledger, is_settling};
+use tf_pending::{judge_settling, stored_settling, verdict_settling};
 use tf_records::{Outcome, Transfer};
 
 /// The verdict on a transfer event: the outcome of the first rule that it breaks, else [`Outcome::Ok`].

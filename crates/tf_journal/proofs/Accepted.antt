@@ -13,13 +13,13 @@ use Rattle.tf_journal.specs.declared.side.Side.TheVariants.{Debit, Credit}
 use Rattle.tf_journal.specs.Balances.{pending_on, posted_on, greatest_amount}
 use Rattle.tf_journal.specs.Flags.{is_pending, is_settling, limits_debits, limits_credits}
 use Rattle.tf_journal.specs.Journal.{is_failed}
-use Rattle.tf_journal.specs.Lookup.{account_of, stored_account_of, transfer_of}
+use Rattle.tf_journal.specs.Lookup.{shown_with_id, account_with_id, transfer_with_id}
 use Rattle.tf_journal.specs.declared.status.Status.{Status}
 use Rattle.tf_journal.specs.declared.status.Status.TheVariants as status
 use Rattle.tf_journal.specs.Lawful.{IsAdmittedTransfer}
 use Rattle.tf_journal.specs.Status.{is_open, is_open_status, status_of}
-use Rattle.tf_journal.specs.Stored.{stamped, stored_settling}
-use Rattle.tf_journal.specs.Verdict.{first_fault, verdict_of, is_accepted, is_posted_status, is_voided_status, is_expired_status, account_faults, account_differences, repeated, account_verdict, transfer_faults, transfer_differences, compared, moving_faults, settling_faults, used_id_fault, accounts_faults, pending_faults, named_fault, settling_verdict, moving_verdict, transfer_verdict}
+use Rattle.tf_journal.specs.Stored.{stamped, settled}
+use Rattle.tf_journal.specs.Verdict.{first_fault, verdict_of, is_accepted, is_posted_status, is_voided_status, is_expired_status, account_faults, account_differences, repeated, account_verdict, transfer_faults, transfer_differences, compared, moving_faults, settling_faults, used_id_fault, sides_faults, pending_faults, named_fault, settling_verdict, moving_verdict, transfer_verdict}
 
 -- no line of the table accepts
 abbrev pub only_refuses : List (Bool × Outcome) → Bool
@@ -62,7 +62,7 @@ no_option f None is = refl
 no_option f (Some x) is = cc
 
 -- an accepted account's id is new
-pub account_is_new : (journal : List Entry) (timestamp : ℕ) (e : Account) → account_verdict journal timestamp e ≡ outcome.Ok → stored_account_of journal e.id ≡ None
+pub account_is_new : (journal : List Entry) (timestamp : ℕ) (e : Account) → account_verdict journal timestamp e ≡ outcome.Ok → account_with_id journal e.id ≡ None
 account_is_new journal timestamp e is =
     let difference = λ (stored : Account). repeated (account_differences e stored) in
     let refuses : (stored : Option Account) → IsRefusal (option_map difference stored) = elim [
@@ -70,12 +70,12 @@ account_is_new journal timestamp e is =
       | Some stored ↦ λ o same. repeated_refuses (account_differences e stored) refl o (let s : Some (difference stored) ≡ Some o = same in cc)
     ] in
     let own = verdict_of-accepts (first_fault (account_faults e)) _ (first_fault-refuses (account_faults e) refl) is in
-    let new = verdict_of-accepts (option_map difference (account_of journal e.id)) [] (refuses (account_of journal e.id)) own.1 in
-    no_option _ (stored_account_of journal e.id) (no_option difference (account_of journal e.id) new.0)
+    let new = verdict_of-accepts (option_map difference (shown_with_id journal e.id)) [] (refuses (shown_with_id journal e.id)) own.1 in
+    no_option _ (account_with_id journal e.id) (no_option difference (shown_with_id journal e.id) new.0)
 
 -- the id of a transfer is neither stored nor failed
 pub record IsNewId (journal : List Entry) (id : ℕ) : Type 0 where
-  pub not_stored : transfer_of journal id ≡ None
+  pub not_stored : transfer_with_id journal id ≡ None
   pub not_failed : is_failed journal id ≡ false
 
 -- the fault of an id by the stored transfer that has it, if one does, or by whether it failed
@@ -99,12 +99,12 @@ unused_parts differences (Some stored) failed is = cc
 -- the fault of an id in use isn't ok
 pub used_id_refuses : (journal : List Entry) (e : Transfer) → IsRefusal (used_id_fault journal e)
 used_id_refuses journal e =
-    used_refuses (transfer_differences (compared journal e)) (λ stored. refl) (transfer_of journal e.id) (is_failed journal e.id)
+    used_refuses (transfer_differences (compared journal e)) (λ stored. refl) (transfer_with_id journal e.id) (is_failed journal e.id)
 
 -- a transfer that passed the comparison with what has its id has a new one
 pub new_id : (journal : List Entry) (e : Transfer) → used_id_fault journal e ≡ None → IsNewId journal e.id
 new_id journal e is =
-    let unused = unused_parts (transfer_differences (compared journal e)) (transfer_of journal e.id) (is_failed journal e.id) is in
+    let unused = unused_parts (transfer_differences (compared journal e)) (transfer_with_id journal e.id) (is_failed journal e.id) is in
     record { not_stored = unused.0; not_failed = unused.1 }
 
 -- what an accepted post or void passed
@@ -114,7 +114,7 @@ pub record IsSettlingPassed (journal : List Entry) (timestamp : ℕ) (e : Transf
   pub own_faults : first_fault (settling_faults e) ≡ None
   pub new : IsNewId journal e.id
   pub pending : Transfer
-  pub named : transfer_of journal e.pending_id ≡ Some pending
+  pub named : transfer_with_id journal e.pending_id ≡ Some pending
   pub pending_faults : first_fault (pending_faults journal timestamp e pending) ≡ None
 
 -- what any other accepted transfer passed
@@ -123,7 +123,7 @@ pub record IsMovingPassed (journal : List Entry) (timestamp : ℕ) (e : Transfer
   pub faults : first_fault (transfer_faults e) ≡ None
   pub own_faults : first_fault (moving_faults e) ≡ None
   pub new : IsNewId journal e.id
-  pub accounts_faults : first_fault (accounts_faults journal timestamp e) ≡ None
+  pub sides_faults : first_fault (sides_faults journal timestamp e) ≡ None
 
 named_refuses : (journal : List Entry) (timestamp : ℕ) (e : Transfer) (named : Option Transfer) → IsRefusal (named_fault journal timestamp e named)
 named_refuses journal timestamp e None o is accepted = let s : outcome.PendingTransferNotFound ≡ o = cc in grind (arith, s, accepted)
@@ -140,8 +140,8 @@ settling_passed journal timestamp e settling is =
     let faults = verdict_of-accepts (first_fault (transfer_faults e)) _ (first_fault-refuses (transfer_faults e) refl) is in
     let own = verdict_of-accepts (first_fault (settling_faults e)) _ (first_fault-refuses (settling_faults e) refl) faults.1 in
     let used = verdict_of-accepts (used_id_fault journal e) _ (used_id_refuses journal e) own.1 in
-    let named = verdict_of-accepts (named_fault journal timestamp e (transfer_of journal e.pending_id)) [] (named_refuses journal timestamp e (transfer_of journal e.pending_id)) used.1 in
-    let passed = named_passed journal timestamp e (transfer_of journal e.pending_id) named.0 in
+    let named = verdict_of-accepts (named_fault journal timestamp e (transfer_with_id journal e.pending_id)) [] (named_refuses journal timestamp e (transfer_with_id journal e.pending_id)) used.1 in
+    let passed = named_passed journal timestamp e (transfer_with_id journal e.pending_id) named.0 in
     record {
       settling = settling;
       faults = faults.0;
@@ -157,13 +157,13 @@ moving_passed journal timestamp e moving is =
     let faults = verdict_of-accepts (first_fault (transfer_faults e)) _ (first_fault-refuses (transfer_faults e) refl) is in
     let own = verdict_of-accepts (first_fault (moving_faults e)) _ (first_fault-refuses (moving_faults e) refl) faults.1 in
     let used = verdict_of-accepts (used_id_fault journal e) _ (used_id_refuses journal e) own.1 in
-    let accounts = verdict_of-accepts (first_fault (accounts_faults journal timestamp e)) [] (first_fault-refuses (accounts_faults journal timestamp e) refl) used.1 in
+    let accounts = verdict_of-accepts (first_fault (sides_faults journal timestamp e)) [] (first_fault-refuses (sides_faults journal timestamp e) refl) used.1 in
     record {
       moving = moving;
       faults = faults.0;
       own_faults = own.0;
       new = new_id journal e used.0;
-      accounts_faults = accounts.0;
+      sides_faults = accounts.0;
     }
 
 -- an accepted transfer passed its tables
@@ -186,8 +186,8 @@ pub record IsNewMoving (journal : List Entry) (transfer : Transfer) : Type 0 whe
   pub new : IsNewId journal transfer.id
   pub debit : Account
   pub credit : Account
-  pub debit_stored : stored_account_of journal transfer.debit_account_id ≡ Some debit
-  pub credit_stored : stored_account_of journal transfer.credit_account_id ≡ Some credit
+  pub debit_stored : account_with_id journal transfer.debit_account_id ≡ Some debit
+  pub credit_stored : account_with_id journal transfer.credit_account_id ≡ Some credit
   pub differ : transfer.debit_account_id ≢ transfer.credit_account_id
   pub debit_ledger : debit.ledger ≡ transfer.ledger
   pub credit_ledger : credit.ledger ≡ transfer.ledger
@@ -204,7 +204,7 @@ pub record IsNewSettling (journal : List Entry) (transfer : Transfer) : Type 0 w
   pub not_pending : is_pending transfer ≡ false
   pub new : IsNewId journal transfer.id
   pub pending : Transfer
-  pub named : transfer_of journal transfer.pending_id ≡ Some pending
+  pub named : transfer_with_id journal transfer.pending_id ≡ Some pending
   pub pending_is : is_pending pending ≡ true
   pub pending_open : is_open journal pending ≡ true
   pub debit : transfer.debit_account_id ≡ pending.debit_account_id
@@ -223,14 +223,14 @@ limit_kept limits stored account sum limit is passed limited =
 
 moving_new : (journal : List Entry) (timestamp : ℕ) (e : Transfer) → IsMovingPassed journal timestamp e → IsNewMoving journal (stamped timestamp e)
 moving_new journal timestamp e passed =
-    let lines = accounts_faults journal timestamp e in
-    let debit = is_there (stored_account_of journal e.debit_account_id) (no_line lines 0 _ passed.accounts_faults refl) in
-    let credit = is_there (stored_account_of journal e.credit_account_id) (no_line lines 1 _ passed.accounts_faults refl) in
+    let lines = sides_faults journal timestamp e in
+    let debit = is_there (account_with_id journal e.debit_account_id) (no_line lines 0 _ passed.sides_faults refl) in
+    let credit = is_there (account_with_id journal e.credit_account_id) (no_line lines 1 _ passed.sides_faults refl) in
     let ledger_at = λ (stored : Option Account). option_map_or (λ (account : Account). account.ledger) stored 0 in
-    let same : ledger_at (stored_account_of journal e.debit_account_id) ≡ ledger_at (stored_account_of journal e.credit_account_id)
-    = eqb-true _ _ (not-false _ (no_line lines 2 _ passed.accounts_faults refl)) in
-    let own : e.ledger ≡ ledger_at (stored_account_of journal e.debit_account_id)
-    = eqb-true _ _ (not-false _ (no_line lines 3 _ passed.accounts_faults refl)) in
+    let same : ledger_at (account_with_id journal e.debit_account_id) ≡ ledger_at (account_with_id journal e.credit_account_id)
+    = eqb-true _ _ (not-false _ (no_line lines 2 _ passed.sides_faults refl)) in
+    let own : e.ledger ≡ ledger_at (account_with_id journal e.debit_account_id)
+    = eqb-true _ _ (not-false _ (no_line lines 3 _ passed.sides_faults refl)) in
     record {
       moving = passed.moving;
       new = passed.new;
@@ -241,10 +241,10 @@ moving_new journal timestamp e passed =
       differ = eqb-false _ _ (no_line (moving_faults e) 4 _ passed.own_faults refl);
       debit_ledger = sym (own ∙ ap ledger_at debit.1);
       credit_ledger = sym (own ∙ same ∙ ap ledger_at credit.1);
-      debits_fit = ltb-false _ _ (no_line lines 10 _ passed.accounts_faults refl);
-      credits_fit = ltb-false _ _ (no_line lines 11 _ passed.accounts_faults refl);
-      debits_limited = limit_kept limits_debits (stored_account_of journal e.debit_account_id) debit.0 _ _ debit.1 (no_line lines 13 _ passed.accounts_faults refl);
-      credits_limited = limit_kept limits_credits (stored_account_of journal e.credit_account_id) credit.0 _ _ credit.1 (no_line lines 14 _ passed.accounts_faults refl);
+      debits_fit = ltb-false _ _ (no_line lines 10 _ passed.sides_faults refl);
+      credits_fit = ltb-false _ _ (no_line lines 11 _ passed.sides_faults refl);
+      debits_limited = limit_kept limits_debits (account_with_id journal e.debit_account_id) debit.0 _ _ debit.1 (no_line lines 13 _ passed.sides_faults refl);
+      credits_limited = limit_kept limits_credits (account_with_id journal e.credit_account_id) credit.0 _ _ credit.1 (no_line lines 14 _ passed.sides_faults refl);
     }
 
 open_from : (s : Status) → is_posted_status s ≡ false → is_voided_status s ≡ false → is_expired_status s ≡ false → is_open_status s ≡ true
@@ -254,7 +254,7 @@ open_from status.Voided posted voided expired = cc
 open_from status.Expired posted voided expired = cc
 
 settling_new : (journal : List Entry) (timestamp : ℕ) (e : Transfer) (passed : IsSettlingPassed journal timestamp e)
-    → IsNewSettling journal (stored_settling passed.pending timestamp e)
+    → IsNewSettling journal (settled passed.pending timestamp e)
 settling_new journal timestamp e passed =
     let lines = pending_faults journal timestamp e passed.pending in
     let exclusive = (or_parts _ _ (or_parts _ _ (no_line (transfer_faults e) 4 _ passed.faults refl)).0).0 in
@@ -283,15 +283,15 @@ pub transfer_new : (journal : List Entry) (transfer : Transfer) → IsAdmittedTr
 transfer_new journal transfer admitted =
     let e = admitted.event in
     let stored_as = λ (settling : Bool) (named : Option Transfer).
-    if settling then option_map_or (λ pending. stored_settling pending transfer.timestamp e) named (stamped transfer.timestamp e) else stamped transfer.timestamp e in
+    if settling then option_map_or (λ pending. settled pending transfer.timestamp e) named (stamped transfer.timestamp e) else stamped transfer.timestamp e in
     elim (transfer_passed journal transfer.timestamp e admitted.accepted) [
       | inl passed ↦
-          let chosen : stored_as true (Some passed.pending) ≡ stored_as (is_settling e) (transfer_of journal e.pending_id)
-          = sym (ap (λ b. stored_as b (transfer_of journal e.pending_id)) passed.settling ∙ ap (λ o. stored_as true o) passed.named) in
+          let chosen : stored_as true (Some passed.pending) ≡ stored_as (is_settling e) (transfer_with_id journal e.pending_id)
+          = sym (ap (λ b. stored_as b (transfer_with_id journal e.pending_id)) passed.settling ∙ ap (λ o. stored_as true o) passed.named) in
           inl (subst (λ t. IsNewSettling journal t) (chosen ∙ admitted.stored) (settling_new journal transfer.timestamp e passed))
       | inr passed ↦
-          let chosen : stored_as false (transfer_of journal e.pending_id) ≡ stored_as (is_settling e) (transfer_of journal e.pending_id)
-          = sym (ap (λ b. stored_as b (transfer_of journal e.pending_id)) passed.moving) in
+          let chosen : stored_as false (transfer_with_id journal e.pending_id) ≡ stored_as (is_settling e) (transfer_with_id journal e.pending_id)
+          = sym (ap (λ b. stored_as b (transfer_with_id journal e.pending_id)) passed.moving) in
           inr (subst (λ t. IsNewMoving journal t) (chosen ∙ admitted.stored) (moving_new journal transfer.timestamp e passed))
     ]
 

@@ -13,7 +13,7 @@ use Rattle.tf_journal.specs.Balances.{account_on}
 use Rattle.tf_journal.specs.Journal.{account_in, accounts_of, transfers_of}
 use Rattle.tf_journal.specs.Laws.{HasAccounts}
 use Rattle.tf_journal.specs.Lawful.{IsAdmitted, IsAdmittedTransfer, IsSound}
-use Rattle.tf_journal.specs.Lookup.{stored_account_of}
+use Rattle.tf_journal.specs.Lookup.{account_with_id}
 use Rattle.tf_journal.proofs.Accepted.{transfer_new}
 use Rattle.tf_journal.proofs.Lists.{find_All, find_push_some}
 use Rattle.tf_journal.proofs.Sound.{by_growth}
@@ -21,8 +21,8 @@ use Rattle.tf_journal.proofs.Steps.{has_id}
 use Rattle.tf_journal.proofs.Unique.{transfers_kept, transfers_push}
 
 -- a stored account stays stored
-pub account_stays : (journal : List Entry) (e : Entry) (id : ℕ) (account : Account) → stored_account_of journal id ≡ Some account
-    → stored_account_of (journal ++ e ∷ []) id ≡ Some account
+pub account_stays : (journal : List Entry) (e : Entry) (id : ℕ) (account : Account) → account_with_id journal id ≡ Some account
+    → account_with_id (journal ++ e ∷ []) id ≡ Some account
 account_stays journal e id account stored =
     ap (λ accounts. find (λ a. a.id == id) accounts) (filter_map-append account_in journal (e ∷ []))
     ∙ find_push_some (λ a. a.id == id) (accounts_of journal) (accounts_of (e ∷ [])) account stored
@@ -51,8 +51,8 @@ new_has_accounts journal transfer all admitted =
           record {
             debit = has.debit;
             credit = has.credit;
-            debit_stored = subst (λ id. stored_account_of journal id ≡ Some has.debit) (sym new.debit) has.debit_stored;
-            credit_stored = subst (λ id. stored_account_of journal id ≡ Some has.credit) (sym new.credit) has.credit_stored;
+            debit_stored = subst (λ id. account_with_id journal id ≡ Some has.debit) (sym new.debit) has.debit_stored;
+            credit_stored = subst (λ id. account_with_id journal id ≡ Some has.credit) (sym new.credit) has.credit_stored;
             differ = λ same. has.differ (sym new.debit ∙ same ∙ new.credit);
             debit_ledger = has.debit_ledger ∙ sym new.ledger;
             credit_ledger = has.credit_ledger ∙ sym new.ledger;
@@ -95,6 +95,6 @@ sound_has_accounts journal sound =
 
 -- the account that a transfer has on a side is stored
 pub account_is_stored : (journal : List Entry) (side : Side) (transfer : Transfer) → HasAccounts journal transfer
-    → (account : Account) × (stored_account_of journal (account_on side transfer) ≡ Some account)
+    → (account : Account) × (account_with_id journal (account_on side transfer) ≡ Some account)
 account_is_stored journal Debit transfer has = (has.debit, has.debit_stored)
 account_is_stored journal Credit transfer has = (has.credit, has.credit_stored)

@@ -14,7 +14,7 @@ use Rattle.tf_journal.specs.Balances.{account_on, pending_amount, pending_on, po
 use Rattle.tf_journal.specs.Journal.{accounts_of, transfers_of}
 use Rattle.tf_journal.specs.Laws.{HasAccounts, IsBalanced, total_pending, total_posted}
 use Rattle.tf_journal.specs.Lawful.{IsSound}
-use Rattle.tf_journal.specs.Lookup.{stored_account_of}
+use Rattle.tf_journal.specs.Lookup.{account_with_id}
 use Rattle.tf_journal.proofs.Accounts.{account_is_stored, sound_has_accounts}
 use Rattle.tf_journal.proofs.Lists.{IsRare, find_passes, sum_by_nothing, sum_by_same, sum_by_step}
 use Rattle.tf_journal.proofs.Steps.{pending_of, pending_sum, posted_of, posted_sum}
@@ -61,7 +61,7 @@ on_one_account journal side transfer amount sound has =
     let own = eqb-true account.id id (find_passes (is_account id) (accounts_of journal) account found) in
     let whole : share account ≡ amount = ap (λ b. if b then amount else 0) (eq-eqb id account.id (sym own)) in
     omega (arith, whole)) in
-    let one : option_map_or (λ (account : Account). amount) (stored_account_of journal id) 0 ≡ amount
+    let one : option_map_or (λ (account : Account). amount) (account_with_id journal id) 0 ≡ amount
     = ap (λ o. option_map_or (λ (account : Account). amount) o 0) stored.1 in
     omega (arith, step, one, sum_by_nothing nothing (accounts_of journal) (λ k d within. refl))
 

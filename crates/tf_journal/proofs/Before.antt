@@ -13,7 +13,7 @@ use Rattle.tf_journal.specs.Fits.{FitsTransfer}
 use Rattle.tf_journal.specs.Flags.{is_settling}
 use Rattle.tf_journal.specs.Journal.{fails, is_failed, transfer_in, transfers_of}
 use Rattle.tf_journal.specs.Lawful.{IsAdmittedFailure}
-use Rattle.tf_journal.specs.Lookup.{transfer_of}
+use Rattle.tf_journal.specs.Lookup.{transfer_with_id}
 use Rattle.tf_journal.specs.Verdict.{compared, first_fault, greatest_id, is_transient, moving_faults, moving_verdict, repeated, settling_faults, settling_verdict, transfer_differences, transfer_faults, transfer_verdict, used_id_fault, verdict_of}
 use Rattle.tf_journal.proofs.Accepted.{IsNewId, new_id, no_line}
 
@@ -32,7 +32,7 @@ transfers_of-append (entry.Expiry t p ∷ journal) more = transfers_of-append jo
 transfers_of-append (entry.Failed t i ∷ journal) more = transfers_of-append journal more
 
 -- a transfer that isn't stored wasn't stored before
-pub transfer_of-before : (journal more : List Entry) (id : ℕ) → transfer_of (journal ++ more) id ≡ None → transfer_of journal id ≡ None
+pub transfer_of-before : (journal more : List Entry) (id : ℕ) → transfer_with_id (journal ++ more) id ≡ None → transfer_with_id journal id ≡ None
 transfer_of-before journal more id is =
     none_before (λ t. t.id == id) (transfers_of journal) (transfers_of more)
     (subst (λ ts. find (λ t. t.id == id) ts ≡ None) (transfers_of-append journal more) is)
@@ -79,7 +79,7 @@ used_lasts differences all (Some stored) failed o is transient =
     repeated_lasts (differences stored) (all stored) o (let s : Some (repeated (differences stored)) ≡ Some o = is in cc) transient
 
 used_id_lasts : (journal : List Entry) (e : Transfer) → IsLasting (used_id_fault journal e)
-used_id_lasts journal e = used_lasts (transfer_differences (compared journal e)) (λ stored. refl) (transfer_of journal e.id) (is_failed journal e.id)
+used_id_lasts journal e = used_lasts (transfer_differences (compared journal e)) (λ stored. refl) (transfer_with_id journal e.id) (is_failed journal e.id)
 
 -- an event that fails for a passing reason is faultless by itself, and its id is new
 pub record IsPassing (journal : List Entry) (e : Transfer) : Type 0 where

@@ -11,7 +11,7 @@ use Rattle.tf_journal.specs.declared.entry.Entry.TheVariants as entry
 use Rattle.tf_journal.specs.Fits.{FitsAccount, FitsTransfer}
 use Rattle.tf_journal.specs.Journal.{IsJournal, is_failed, IsRisingFrom, IsUpTo, last_timestamp, timestamp_of}
 use Rattle.tf_journal.specs.Ledger.{CanGrow}
-use Rattle.tf_journal.specs.Lookup.{transfer_of}
+use Rattle.tf_journal.specs.Lookup.{transfer_with_id}
 use Rattle.tf_journal.specs.Due.{next_due_of}
 use Rattle.tf_journal.specs.Stored.{stored_account, stored_transfer}
 use Rattle.tf_journal.specs.Verdict.{account_verdict, greatest_id, transfer_verdict}
@@ -138,7 +138,7 @@ expiry_grows journal timestamp pending transfer rising next is = record {
 }
 
 pub failed_grows : (journal : List Entry) (timestamp id : ℕ) → rises 0 (journal ++ entry.Failed timestamp id ∷ []) ≡ true
-    → (nat_lt 0 id && nat_lt id greatest_id) ≡ true → transfer_of journal id ≡ None → is_failed journal id ≡ false → CanGrow journal (entry.Failed timestamp id)
+    → (nat_lt 0 id && nat_lt id greatest_id) ≡ true → transfer_with_id journal id ≡ None → is_failed journal id ≡ false → CanGrow journal (entry.Failed timestamp id)
 failed_grows journal timestamp id rising in_range not_stored not_failed =
     let parts = both (nat_lt 0 id) (nat_lt id greatest_id) in_range in
     record {

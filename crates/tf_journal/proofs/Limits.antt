@@ -17,7 +17,7 @@ use Rattle.tf_journal.specs.Journal.{account_in, transfers_of}
 use Rattle.tf_journal.specs.Laws.{IsWithinLimits}
 use Rattle.tf_journal.specs.Lawful.{IsSound}
 use Rattle.tf_journal.specs.Ledger.{CanGrow}
-use Rattle.tf_journal.specs.Lookup.{stored_account_of, transfer_of}
+use Rattle.tf_journal.specs.Lookup.{account_with_id, transfer_with_id}
 use Rattle.tf_journal.specs.Steps.{amount_on, released, set_aside}
 use Rattle.tf_journal.proofs.Accepted.{IsNewMoving, IsNewSettling, transfer_new}
 use Rattle.tf_journal.proofs.Accounts.{account_is_stored, account_stays, sound_has_accounts}
@@ -27,7 +27,7 @@ use Rattle.tf_journal.proofs.Steps.{pending_of, pending_push, pending_sum, poste
 use Rattle.tf_journal.proofs.Unique.{accounts_kept}
 
 -- nothing is pending or posted on an account that isn't stored
-pub unstored_is_zero : (journal : List Entry) (side : Side) (id : ℕ) → IsSound journal → stored_account_of journal id ≡ None
+pub unstored_is_zero : (journal : List Entry) (side : Side) (id : ℕ) → IsSound journal → account_with_id journal id ≡ None
     → (pending_on journal side id ≡ 0) × (posted_on journal side id ≡ 0)
 unstored_is_zero journal side id sound unstored =
     let transfers = transfers_of journal in
@@ -35,7 +35,7 @@ unstored_is_zero journal side id sound unstored =
     = λ k d within. let transfer = get_or transfers k d in
     let account = account_is_stored journal side transfer (sound_has_accounts journal sound k d within) in
     ne_eqb (account_on side transfer) id (λ same.
-    none-some account.0 (sym unstored ∙ ap (stored_account_of journal) (sym same) ∙ account.1)) in
+    none-some account.0 (sym unstored ∙ ap (account_with_id journal) (sym same) ∙ account.1)) in
     let pending = sum_by_nothing (pending_of journal side id) transfers
     (λ k d within. ap (λ b. if b then pending_amount journal (get_or transfers k d) else 0) (other k d within)) in
     let posted = sum_by_nothing (posted_of side id) transfers
@@ -48,8 +48,8 @@ total_on journal side id = pending_on journal side id + posted_on journal side i
 
 -- an account is stored under the id, as before, or nothing was on either of its sides
 abbrev IsOldOrZero : List Entry → List Entry → Type 0
-IsOldOrZero journal after = (id : ℕ) (account : Account) → stored_account_of after id ≡ Some account
-    → (stored_account_of journal id ≡ Some account) ⊎ ((side : Side) → total_on journal side id ≡ 0)
+IsOldOrZero journal after = (id : ℕ) (account : Account) → account_with_id after id ≡ Some account
+    → (account_with_id journal id ≡ Some account) ⊎ ((side : Side) → total_on journal side id ≡ 0)
 
 -- limits hold where no sum grew but what is posted
 no_more_limited : (journal after : List Entry) → IsWithinLimits journal
@@ -118,14 +118,14 @@ other_accounts journal e none id account stored =
 
 new_account : (journal : List Entry) (account : Account) → IsSound journal → IsOldOrZero journal (journal ++ entry.Account account ∷ [])
 new_account journal account sound id found stored =
-    let cases : (before : Option Account) → stored_account_of journal id ≡ before → (stored_account_of journal id ≡ Some found) ⊎ ((side : Side) → total_on journal side id ≡ 0)
+    let cases : (before : Option Account) → account_with_id journal id ≡ before → (account_with_id journal id ≡ Some found) ⊎ ((side : Side) → total_on journal side id ≡ 0)
     = elim [
       | None ↦ λ unstored. inr (λ side. let zero = unstored_is_zero journal side id sound unstored in omega (arith, zero.0, zero.1))
       | Some old ↦ λ is.
           let same : Some old ≡ Some found = sym (account_stays journal (entry.Account account) id old is) ∙ stored in
           inl (is ∙ same)
     ] in
-    cases (stored_account_of journal id) refl
+    cases (account_with_id journal id) refl
 
 same_account : (side : Side) (transfer pending : Transfer) → transfer.debit_account_id ≡ pending.debit_account_id → transfer.credit_account_id ≡ pending.credit_account_id
     → account_on side transfer ≡ account_on side pending
@@ -136,7 +136,7 @@ same_account Credit transfer pending debit credit = credit
 settling_adds_no_more : (journal : List Entry) (transfer : Transfer) (side : Side) (id : ℕ) → IsNewSettling journal transfer
     → posted_by side id (entry.Transfer transfer) + set_aside side id (entry.Transfer transfer) ≤ released journal side id (entry.Transfer transfer)
 settling_adds_no_more journal transfer side id new =
-    let named = option_map_or (amount_on side id) (transfer_of journal transfer.pending_id) 0 in
+    let named = option_map_or (amount_on side id) (transfer_with_id journal transfer.pending_id) 0 in
     let account = same_account side transfer new.pending new.debit new.credit in
     let off : released journal side id (entry.Transfer transfer) ≡ amount_on side id new.pending
     = ap (λ b. if b then named else 0) new.settling ∙ ap (λ o. option_map_or (amount_on side id) o 0) new.named in
@@ -158,7 +158,7 @@ moving_adds : (journal : List Entry) (transfer : Transfer) → IsSound journal �
     → (side : Side) (id : ℕ) → IsAdded journal (journal ++ entry.Transfer transfer ∷ []) transfer side id
 moving_adds journal transfer sound grows moving side id =
     let e = entry.Transfer transfer in
-    let off : released journal side id e ≡ 0 = ap (λ b. if b then option_map_or (amount_on side id) (transfer_of journal transfer.pending_id) 0 else 0) moving in
+    let off : released journal side id e ≡ 0 = ap (λ b. if b then option_map_or (amount_on side id) (transfer_with_id journal transfer.pending_id) 0 else 0) moving in
     let posted = posted_push journal e side id in
     let pending = pending_push journal e side id sound grows in
     record {
@@ -170,7 +170,7 @@ moving_adds journal transfer sound grows moving side id =
 -- any other transfer fits, by what its verdict says of its accounts
 moving_limited : (journal after : List Entry) (transfer : Transfer) → IsWithinLimits journal → IsNewMoving journal transfer
     → ((side : Side) (id : ℕ) → IsAdded journal after transfer side id)
-    → ((id : ℕ) → stored_account_of after id ≡ stored_account_of journal id)
+    → ((id : ℕ) → account_with_id after id ≡ account_with_id journal id)
     → IsWithinLimits after
 moving_limited journal after transfer limited new added accounts = record {
   sums = λ side id.
@@ -185,7 +185,7 @@ moving_limited journal after transfer limited new added accounts = record {
       let other = (added Credit id).more_posted in
       elim (cases_eq transfer.debit_account_id id) [
         | inl here ↦
-            let same = same_Some account new.debit (sym before ∙ ap (stored_account_of journal) (sym here) ∙ new.debit_stored) in
+            let same = same_Some account new.debit (sym before ∙ ap (account_with_id journal) (sym here) ∙ new.debit_stored) in
             let fit = new.debits_limited (ap limits_debits (sym same) ∙ limit) in
             let fit_here = subst (λ n. total_on journal Debit n + transfer.amount ≤ posted_on journal Credit n) here fit in
             omega (arith, (added Debit id).here here)
@@ -196,7 +196,7 @@ moving_limited journal after transfer limited new added accounts = record {
       let other = (added Debit id).more_posted in
       elim (cases_eq transfer.credit_account_id id) [
         | inl here ↦
-            let same = same_Some account new.credit (sym before ∙ ap (stored_account_of journal) (sym here) ∙ new.credit_stored) in
+            let same = same_Some account new.credit (sym before ∙ ap (account_with_id journal) (sym here) ∙ new.credit_stored) in
             let fit = new.credits_limited (ap limits_credits (sym same) ∙ limit) in
             let fit_here = subst (λ n. total_on journal Credit n + transfer.amount ≤ posted_on journal Debit n) here fit in
             omega (arith, (added Credit id).here here)

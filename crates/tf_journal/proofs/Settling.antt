@@ -16,7 +16,7 @@ use Rattle.tf_journal.specs.Journal.{timestamp_of, transfer_in, transfers_of}
 use Rattle.tf_journal.specs.Laws.{settles}
 use Rattle.tf_journal.specs.Lawful.{IsAdmitted, IsAdmittedExpiry, IsSound}
 use Rattle.tf_journal.specs.Ledger.{CanGrow}
-use Rattle.tf_journal.specs.Lookup.{transfer_of}
+use Rattle.tf_journal.specs.Lookup.{transfer_with_id}
 use Rattle.tf_journal.specs.Status.{expires, is_open, is_open_status, pending_at, posts, voids}
 use Rattle.tf_journal.specs.Verdict.{is_overdue}
 use Rattle.tf_journal.proofs.Accepted.{transfer_new}
@@ -159,13 +159,13 @@ settles_its_own transfer pending settling own =
     or_left (posted || voided) false either
 
 -- an admitted entry settles no pending transfer whose id isn't stored and that is later than all entries
-settles_no_unstored : (journal : List Entry) (e : Entry) (pending : Transfer) → IsAdmitted journal e → transfer_of journal pending.id ≡ None
+settles_no_unstored : (journal : List Entry) (e : Entry) (pending : Transfer) → IsAdmitted journal e → transfer_with_id journal pending.id ≡ None
     → All (λ x. timestamp_of x < pending.timestamp) journal → settles pending e ≡ false
 settles_no_unstored journal (entry.Account account) pending admitted unstored earlier = refl
 settles_no_unstored journal (entry.Transfer transfer) pending admitted unstored earlier =
     elim (transfer_new journal transfer admitted) [
       | inl settling ↦ settles_no_other transfer pending (λ same.
-          let none : transfer_of journal transfer.pending_id ≡ None = subst (λ id. transfer_of journal id ≡ None) same unstored in
+          let none : transfer_with_id journal transfer.pending_id ≡ None = subst (λ id. transfer_with_id journal id ≡ None) same unstored in
           none-some settling.pending (sym none ∙ settling.named))
       | inr moving ↦ moving_settles_nothing transfer pending moving.moving
     ]
@@ -178,11 +178,11 @@ settles_no_unstored journal (entry.Failed timestamp id) pending admitted unstore
 
 -- a pending transfer whose id isn't stored, and that is later than all entries, is open
 abbrev LeavesOpen : List Entry → Type 0
-LeavesOpen journal = (pending : Transfer) → transfer_of journal pending.id ≡ None → All (λ x. timestamp_of x < pending.timestamp) journal → is_open journal pending ≡ true
+LeavesOpen journal = (pending : Transfer) → transfer_with_id journal pending.id ≡ None → All (λ x. timestamp_of x < pending.timestamp) journal → is_open journal pending ≡ true
 
 open_kept : (journal : List Entry) (e : Entry) → IsSound journal → CanGrow journal e → LeavesOpen journal → LeavesOpen (journal ++ e ∷ [])
 open_kept journal e sound grows opens pending unstored earlier =
-    let unstored_before : transfer_of journal pending.id ≡ None
+    let unstored_before : transfer_with_id journal pending.id ≡ None
     = find_before (λ t. t.id == pending.id) (transfers_of journal) (transfers_of (e ∷ []))
     (ap (λ ts. find (λ (t : Transfer). t.id == pending.id) ts) (sym (filter_map-append transfer_in journal (e ∷ []))) ∙ unstored) in
     let earlier_before : All (λ x. timestamp_of x < pending.timestamp) journal = All_before (λ x. timestamp_of x < pending.timestamp) journal (e ∷ []) earlier in
@@ -190,6 +190,6 @@ open_kept journal e sound grows opens pending unstored earlier =
     (not_from_false _ (settles_no_unstored journal e pending grows.admitted unstored_before earlier_before))
 
 -- nothing in a journal settles a transfer that comes later
-pub new_is_open : (journal : List Entry) → IsSound journal → (pending : Transfer) → transfer_of journal pending.id ≡ None
+pub new_is_open : (journal : List Entry) → IsSound journal → (pending : Transfer) → transfer_with_id journal pending.id ≡ None
     → All (λ x. timestamp_of x < pending.timestamp) journal → is_open journal pending ≡ true
 new_is_open journal sound = by_growth LeavesOpen (λ pending unstored earlier. refl) open_kept journal sound

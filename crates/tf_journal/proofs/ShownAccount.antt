@@ -11,7 +11,7 @@ use Rattle.tf_journal.specs.Balances.{pending_on, posted_on}
 use Rattle.tf_journal.specs.Closed.{is_closed}
 use Rattle.tf_journal.specs.Flags.{has_flag, is_marked_closed, limits_credits, limits_debits}
 use Rattle.tf_journal.specs.Journal.{accounts_of}
-use Rattle.tf_journal.specs.Lookup.{account_of, is_closed_at, shown, stored_account_of}
+use Rattle.tf_journal.specs.Lookup.{shown_with_id, is_closed_at, shown, account_with_id}
 use Rattle.tf_journal.specs.Verdict.{has_limit, ledger_of}
 use Rattle.tf_journal.proofs.Lists.{find_passes}
 use Rattle.tf_journal.proofs.Shown.{shown_closed}
@@ -19,7 +19,7 @@ use Rattle.tf_journal.proofs.Shown.{shown_closed}
 -- what is shown under an id is the stored account with that id
 pub record IsShownAt (journal : List Entry) (id : ℕ) (account : Account) : Type 0 where
   pub stored : Account
-  pub found : stored_account_of journal id ≡ Some stored
+  pub found : account_with_id journal id ≡ Some stored
   pub has_id : stored.id ≡ id
   pub as_shown : shown journal stored ≡ account
 
@@ -27,9 +27,9 @@ mapped : {X Y : Type 0} (f : X → Y) (o : Option X) (y : Y) → option_map f o 
 mapped f None y is = cc
 mapped f (Some x) y is = (x, refl, cc)
 
-pub shown_at : (journal : List Entry) (id : ℕ) (account : Account) → account_of journal id ≡ Some account → IsShownAt journal id account
+pub shown_at : (journal : List Entry) (id : ℕ) (account : Account) → shown_with_id journal id ≡ Some account → IsShownAt journal id account
 shown_at journal id account is =
-    let found = mapped (shown journal) (stored_account_of journal id) account is in
+    let found = mapped (shown journal) (account_with_id journal id) account is in
     record {
       stored = found.0;
       found = found.1;
@@ -38,8 +38,8 @@ shown_at journal id account is =
     }
 
 -- an account that isn't shown isn't stored
-pub not_shown : (journal : List Entry) (id : ℕ) → account_of journal id ≡ None → stored_account_of journal id ≡ None
-not_shown journal id is = go (stored_account_of journal id) is where
+pub not_shown : (journal : List Entry) (id : ℕ) → shown_with_id journal id ≡ None → account_with_id journal id ≡ None
+not_shown journal id is = go (account_with_id journal id) is where
   go : (o : Option Account) → option_map (shown journal) o ≡ None → o ≡ None
   go None is = refl
   go (Some x) is = cc
@@ -53,7 +53,7 @@ shown_limits_credits journal account = grind (arith, common_steps)
 
 -- what the tables ask of an account, read off the shown one
 pub record IsReadOff (journal : List Entry) (id : ℕ) (account : Account) : Type 0 where
-  pub is_stored : is_none (stored_account_of journal id) ≡ false
+  pub is_stored : is_none (account_with_id journal id) ≡ false
   pub ledger : ledger_of journal id ≡ account.ledger
   pub closed : is_closed_at journal id ≡ is_marked_closed account
   pub debits_pending : pending_on journal Debit id ≡ account.debits_pending
@@ -63,7 +63,7 @@ pub record IsReadOff (journal : List Entry) (id : ℕ) (account : Account) : Typ
   pub debit_limit : has_limit limits_debits journal id ≡ limits_debits account
   pub credit_limit : has_limit limits_credits journal id ≡ limits_credits account
 
-pub read_off : (journal : List Entry) (id : ℕ) (account : Account) → account_of journal id ≡ Some account → IsReadOff journal id account
+pub read_off : (journal : List Entry) (id : ℕ) (account : Account) → shown_with_id journal id ≡ Some account → IsReadOff journal id account
 read_off journal id account is =
     let at = shown_at journal id account is in
     let stored = at.stored in

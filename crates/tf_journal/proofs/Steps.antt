@@ -16,7 +16,7 @@ use Rattle.tf_journal.specs.Journal.{transfer_in, transfers_of}
 use Rattle.tf_journal.specs.Laws.{settles}
 use Rattle.tf_journal.specs.Lawful.{IsAdmitted, IsSound}
 use Rattle.tf_journal.specs.Ledger.{CanGrow}
-use Rattle.tf_journal.specs.Lookup.{transfer_of}
+use Rattle.tf_journal.specs.Lookup.{transfer_with_id}
 use Rattle.tf_journal.specs.Status.{is_open}
 use Rattle.tf_journal.specs.Steps.{amount_on, released, set_aside}
 use Rattle.tf_journal.proofs.Accepted.{IsNewSettling, transfer_is_new, transfer_new}
@@ -138,7 +138,7 @@ has_id_is_rare journal id sound i j d before within passed =
 
 settling_takes_off : (journal : List Entry) (transfer : Transfer) (side : Side) (id : ℕ) → IsSound journal → IsNewSettling journal transfer
     → sum_by (pending_by journal side id) journal
-    ≡ sum_by (pending_by (journal ++ entry.Transfer transfer ∷ []) side id) journal + option_map_or (amount_on side id) (transfer_of journal transfer.pending_id) 0
+    ≡ sum_by (pending_by (journal ++ entry.Transfer transfer ∷ []) side id) journal + option_map_or (amount_on side id) (transfer_with_id journal transfer.pending_id) 0
 settling_takes_off journal transfer side id sound new =
     takes_off_named journal (entry.Transfer transfer) side id (has_id transfer.pending_id) (has_id_is_rare journal transfer.pending_id sound)
     (λ pending other. and_right (is_pending pending) (settles pending (entry.Transfer transfer)) (settles_no_other transfer pending (eqb-false pending.id transfer.pending_id other)))
@@ -164,7 +164,7 @@ takes_off_released : (journal : List Entry) (e : Entry) (side : Side) (id : ℕ)
 takes_off_released journal (entry.Account account) side id sound admitted =
     omega (arith, takes_off_nothing journal (entry.Account account) side id (λ transfer. refl))
 takes_off_released journal (entry.Transfer transfer) side id sound admitted =
-    let named = option_map_or (amount_on side id) (transfer_of journal transfer.pending_id) 0 in
+    let named = option_map_or (amount_on side id) (transfer_with_id journal transfer.pending_id) 0 in
     elim (transfer_new journal transfer admitted) [
       | inl new ↦
           let off : (if is_settling transfer then named else 0) ≡ named = ap (λ b. if b then named else 0) new.settling in

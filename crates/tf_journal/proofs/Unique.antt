@@ -13,7 +13,7 @@ use Rattle.tf_journal.specs.declared.entry.Entry.TheVariants as entry
 use Rattle.tf_journal.specs.Journal.{account_in, transfer_in, accounts_of, transfers_of, fails, is_failed, timestamp_of}
 use Rattle.tf_journal.specs.Laws.{HasUniqueIds, failed_in, failed_ids}
 use Rattle.tf_journal.specs.Lawful.{IsAdmitted, IsSound}
-use Rattle.tf_journal.specs.Lookup.{stored_account_of, transfer_of}
+use Rattle.tf_journal.specs.Lookup.{account_with_id, transfer_with_id}
 use Rattle.tf_journal.proofs.Accepted.{IsNewId, account_is_new, transfer_is_new}
 use Rattle.tf_journal.proofs.Lists.{All-filter_map, filter_map_push_some, filter_map_push_none, find_none, find_push_none, list_any_push, none_passes}
 use Rattle.tf_journal.proofs.Sound.{all_earlier, by_growth}
@@ -59,13 +59,13 @@ itself id = id
 
 -- no id is both stored and failed
 abbrev IsStoredOrFailed : List Entry → Type 0
-IsStoredOrFailed journal = (id : ℕ) → is_failed journal id ≡ true → transfer_of journal id ≡ None
+IsStoredOrFailed journal = (id : ℕ) → is_failed journal id ≡ true → transfer_with_id journal id ≡ None
 
 -- no id is both where an entry adds no transfer, and fails none that is stored
 stored_or_failed_kept : (journal : List Entry) (e : Entry) → IsStoredOrFailed journal → transfer_in e ≡ None
-    → ((id : ℕ) → fails id e ≡ true → transfer_of journal id ≡ None) → IsStoredOrFailed (journal ++ e ∷ [])
+    → ((id : ℕ) → fails id e ≡ true → transfer_with_id journal id ≡ None) → IsStoredOrFailed (journal ++ e ∷ [])
 stored_or_failed_kept journal e is other failing id failed =
-    let before : transfer_of journal id ≡ None = elim (or_cases _ _ (sym (list_any_push (fails id) journal e) ∙ failed)) [
+    let before : transfer_with_id journal id ≡ None = elim (or_cases _ _ (sym (list_any_push (fails id) journal e) ∙ failed)) [
       | inl earlier ↦ is id earlier
       | inr now ↦ failing id now
     ] in
@@ -98,7 +98,7 @@ unique_push : (journal : List Entry) (e : Entry) → HasUniqueIds journal → Is
 unique_push journal (entry.Account account) unique admitted =
     let e = entry.Account account in
     let same : admitted.event.id ≡ account.id = ap id_of_account admitted.stored in
-    let new = subst (λ id. stored_account_of journal id ≡ None) same (account_is_new journal account.timestamp admitted.event admitted.accepted) in
+    let new = subst (λ id. account_with_id journal id ≡ None) same (account_is_new journal account.timestamp admitted.event admitted.accepted) in
     record {
       accounts = subst (DifferBy id_of_account) (sym (accounts_push journal account))
           (differ_push id_of_account (accounts_of journal) account unique.accounts (not_found id_of_account (accounts_of journal) account.id new));
@@ -132,7 +132,7 @@ unique_push journal (entry.Failed timestamp id) unique admitted =
       failed = subst (DifferBy itself) (sym (filter_map_push_some failed_in journal e id refl))
           (differ_push itself (failed_ids journal) id unique.failed (failed_ids_differ journal id admitted.not_failed));
       stored_or_failed = stored_or_failed_kept journal e unique.stored_or_failed refl
-          (λ other now. subst (λ n. transfer_of journal n ≡ None) (eqb-true id other now) admitted.not_stored);
+          (λ other now. subst (λ n. transfer_with_id journal n ≡ None) (eqb-true id other now) admitted.not_stored);
     }
 
 unique_nothing : HasUniqueIds []

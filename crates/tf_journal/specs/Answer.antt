@@ -14,7 +14,7 @@ use Rattle.tf_journal.specs.Balances.{balances_of}
 use Rattle.tf_journal.specs.Filter.{Search, account_search, query_search, searched_account, searched_transfer}
 use Rattle.tf_journal.specs.Flags.{keeps_history}
 use Rattle.tf_journal.specs.Journal.{accounts_of, transfers_of, timestamp_of}
-use Rattle.tf_journal.specs.Lookup.{account_of, shown, stored_account_of, transfer_of}
+use Rattle.tf_journal.specs.Lookup.{shown_with_id, shown, account_with_id, transfer_with_id}
 
 -- the greatest number of rows of an answer, and of ids of a look-up
 abbrev pub answer_max : ℕ
@@ -64,7 +64,7 @@ balance_after journal id transfer =
 -- get_account_transfers gives
 abbrev pub history_of : List Entry → AccountFilter → List AccountBalance
 history_of journal filter =
-    if option_map_or keeps_history (stored_account_of journal filter.account_id) false
+    if option_map_or keeps_history (account_with_id journal filter.account_id) false
     then map (balance_after journal filter.account_id) (account_transfers_of journal filter)
     else []
 
@@ -74,11 +74,11 @@ lookup_of find ids = filter_map find ids
 
 -- the answer of lookup_accounts
 abbrev pub looked_up_accounts : List Entry → List ℕ → List Account
-looked_up_accounts journal ids = lookup_of (account_of journal) ids
+looked_up_accounts journal ids = lookup_of (shown_with_id journal) ids
 
 -- the answer of lookup_transfers
 abbrev pub looked_up_transfers : List Entry → List ℕ → List Transfer
-looked_up_transfers journal ids = lookup_of (transfer_of journal) ids
+looked_up_transfers journal ids = lookup_of (transfer_with_id journal) ids
 
 -- why a look-up of so many ids is refused
 abbrev pub lookup_refusal : ℕ → Option Refusal

@@ -9,7 +9,7 @@ use Rattle.tf_journal.specs.declared.entry.Entry.TheVariants as entry
 use Rattle.tf_journal.specs.Flags.{is_linked}
 use Rattle.tf_journal.specs.Fits.{FitsAccount, FitsTransfer}
 use Rattle.tf_journal.specs.Journal.{IsJournal, IsUpTo, is_failed, timestamp_of}
-use Rattle.tf_journal.specs.Lookup.{transfer_of}
+use Rattle.tf_journal.specs.Lookup.{transfer_with_id}
 use Rattle.tf_journal.specs.Due.{next_due_of}
 use Rattle.tf_journal.specs.Stored.{stored_account, stored_transfer}
 use Rattle.tf_journal.specs.Verdict.{account_verdict, transfer_verdict, greatest_id}
@@ -38,7 +38,7 @@ pub record IsAdmittedExpiry (journal : List Entry) (timestamp pending : ℕ) : T
 pub record IsAdmittedFailure (journal : List Entry) (id : ℕ) : Type 0 where
   pub not_zero : 0 < id
   pub not_greatest : id < greatest_id
-  pub not_stored : transfer_of journal id ≡ None
+  pub not_stored : transfer_with_id journal id ≡ None
   pub not_failed : is_failed journal id ≡ false
 
 -- a journal admits an entry

@@ -10,15 +10,15 @@ use Rattle.tf_journal.specs.declared.side.Side.TheVariants.{Debit, Credit}
 use Rattle.tf_journal.specs.Balances.{greatest_amount, pending_on, posted_on}
 use Rattle.tf_journal.specs.Flags.{is_pending, limits_debits, limits_credits}
 use Rattle.tf_journal.specs.Journal.{accounts_of, transfers_of, is_failed}
-use Rattle.tf_journal.specs.Lookup.{stored_account_of, transfer_of}
+use Rattle.tf_journal.specs.Lookup.{account_with_id, transfer_with_id}
 use Rattle.tf_journal.specs.Status.{posts, voids, expires}
 
 -- no sum passes the greatest amount, and an account with a limit is within it
 pub record IsWithinLimits (journal : List Entry) : Type 0 where
   pub sums : (side : Side) (id : ℕ) → pending_on journal side id + posted_on journal side id ≤ greatest_amount
-  pub debits : (id : ℕ) (account : Account) → stored_account_of journal id ≡ Some account → limits_debits account ≡ true
+  pub debits : (id : ℕ) (account : Account) → account_with_id journal id ≡ Some account → limits_debits account ≡ true
       → pending_on journal Debit id + posted_on journal Debit id ≤ posted_on journal Credit id
-  pub credits : (id : ℕ) (account : Account) → stored_account_of journal id ≡ Some account → limits_credits account ≡ true
+  pub credits : (id : ℕ) (account : Account) → account_with_id journal id ≡ Some account → limits_credits account ≡ true
       → pending_on journal Credit id + posted_on journal Credit id ≤ posted_on journal Debit id
 
 abbrev pub failed_in : Entry → Option ℕ
@@ -34,7 +34,7 @@ pub record HasUniqueIds (journal : List Entry) : Type 0 where
   pub accounts : AllPairs (λ first second. first.id ≢ second.id) (accounts_of journal)
   pub transfers : AllPairs (λ first second. first.id ≢ second.id) (transfers_of journal)
   pub failed : AllPairs (λ first second. first ≢ second) (failed_ids journal)
-  pub stored_or_failed : (id : ℕ) → is_failed journal id ≡ true → transfer_of journal id ≡ None
+  pub stored_or_failed : (id : ℕ) → is_failed journal id ≡ true → transfer_with_id journal id ≡ None
 
 -- whether an entry posts, voids or expires a pending transfer
 abbrev pub settles : Transfer → Entry → Bool
@@ -48,8 +48,8 @@ SettlesOnce journal = All (λ transfer. is_pending transfer ≡ true → count_b
 pub record HasAccounts (journal : List Entry) (transfer : Transfer) : Type 0 where
   pub debit : Account
   pub credit : Account
-  pub debit_stored : stored_account_of journal transfer.debit_account_id ≡ Some debit
-  pub credit_stored : stored_account_of journal transfer.credit_account_id ≡ Some credit
+  pub debit_stored : account_with_id journal transfer.debit_account_id ≡ Some debit
+  pub credit_stored : account_with_id journal transfer.credit_account_id ≡ Some credit
   pub differ : transfer.debit_account_id ≢ transfer.credit_account_id
   pub debit_ledger : debit.ledger ≡ transfer.ledger
   pub credit_ledger : credit.ledger ≡ transfer.ledger

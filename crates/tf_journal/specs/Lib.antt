@@ -1,3 +1,4 @@
+-- What public contracts speak of.
 pub mod Flags
 pub mod Fits
 pub mod Journal
@@ -13,5 +14,6 @@ pub mod Filter
 pub mod Answer
 pub mod Ledger
 pub mod Laws
+-- What contracts of its parts and proofs alone speak of.
 pub mod Steps
 pub mod Expired

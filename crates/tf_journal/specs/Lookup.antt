@@ -13,12 +13,12 @@ use Rattle.tf_journal.specs.Balances.{balances_of}
 use Rattle.tf_journal.specs.Closed.{is_closed}
 
 -- the account with this id as it was stored: its sums are 0, its flags its own
-abbrev pub stored_account_of : List Entry → ℕ → Option Account
-stored_account_of journal id = find (λ account. account.id == id) (accounts_of journal)
+abbrev pub account_with_id : List Entry → ℕ → Option Account
+account_with_id journal id = find (λ account. account.id == id) (accounts_of journal)
 
 -- the transfer with this id
-abbrev pub transfer_of : List Entry → ℕ → Option Transfer
-transfer_of journal id = find (λ transfer. transfer.id == id) (transfers_of journal)
+abbrev pub transfer_with_id : List Entry → ℕ → Option Transfer
+transfer_with_id journal id = find (λ transfer. transfer.id == id) (transfers_of journal)
 
 -- an account with these balances, marked as closed where it is
 abbrev pub with_state : Sums → Bool → Account → Account
@@ -35,12 +35,12 @@ abbrev pub shown : List Entry → Account → Account
 shown journal account = with_state (balances_of journal account.id) (is_closed journal account) account
 
 -- the account with this id as answers show it
-abbrev pub account_of : List Entry → ℕ → Option Account
-account_of journal id = option_map (shown journal) (stored_account_of journal id)
+abbrev pub shown_with_id : List Entry → ℕ → Option Account
+shown_with_id journal id = option_map (shown journal) (account_with_id journal id)
 
 -- whether the account with this id is stored and closed
 abbrev pub is_closed_at : List Entry → ℕ → Bool
-is_closed_at journal id = option_map_or (is_closed journal) (stored_account_of journal id) false
+is_closed_at journal id = option_map_or (is_closed journal) (account_with_id journal id) false
 
 -- the use of a transfer id that no transfer is stored with
 abbrev pub unstored_use : Bool → IdUse
@@ -48,4 +48,4 @@ unstored_use failed = if failed then Failed else Free
 
 -- whether a transfer id is free, failed, or that of a stored transfer
 abbrev pub id_use_of : List Entry → ℕ → IdUse
-id_use_of journal id = option_map_or Stored (transfer_of journal id) (unstored_use (is_failed journal id))
+id_use_of journal id = option_map_or Stored (transfer_with_id journal id) (unstored_use (is_failed journal id))

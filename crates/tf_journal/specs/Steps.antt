@@ -7,7 +7,7 @@ use Rattle.tf_journal.specs.declared.entry.Entry.TheVariants as entry
 use Rattle.tf_journal.specs.declared.side.Side.{Side}
 use Rattle.tf_journal.specs.Balances.{account_on}
 use Rattle.tf_journal.specs.Flags.{is_pending, is_settling}
-use Rattle.tf_journal.specs.Lookup.{transfer_of}
+use Rattle.tf_journal.specs.Lookup.{transfer_with_id}
 use Rattle.tf_journal.specs.Status.{pending_at}
 
 -- the amount of a transfer that has the account with this id on this side, else 0
@@ -22,6 +22,6 @@ set_aside side id _ = 0
 -- what an entry that posts, voids or expires a pending transfer takes off what is pending there: that transfer's amount
 abbrev pub released : List Entry → Side → ℕ → Entry → ℕ
 released journal side id (entry.Transfer transfer) =
-    if is_settling transfer then option_map_or (amount_on side id) (transfer_of journal transfer.pending_id) 0 else 0
+    if is_settling transfer then option_map_or (amount_on side id) (transfer_with_id journal transfer.pending_id) 0 else 0
 released journal side id (entry.Expiry timestamp pending) = option_map_or (amount_on side id) (pending_at journal pending) 0
 released journal side id _ = 0

@@ -5,7 +5,7 @@ use Rattle.tf_records.specs.declared.account.Account.{Account}
 use Rattle.tf_records.specs.declared.transfer.Transfer.{Transfer}
 use Rattle.tf_journal.specs.declared.entry.Entry.{Entry}
 use Rattle.tf_journal.specs.Flags.{is_post, is_settling}
-use Rattle.tf_journal.specs.Lookup.{transfer_of}
+use Rattle.tf_journal.specs.Lookup.{transfer_with_id}
 use Rattle.tf_journal.specs.Balances.{greatest_amount}
 
 -- a field of a post or void: its own, or its pending transfer's where it is 0
@@ -32,8 +32,8 @@ filled_in pending e = record e {
 }
 
 -- a post or void as it is stored: the accounts, ledger and code are its pending transfer's
-abbrev pub stored_settling : Transfer → ℕ → Transfer → Transfer
-stored_settling pending timestamp e = record (filled_in pending e) {
+abbrev pub settled : Transfer → ℕ → Transfer → Transfer
+settled pending timestamp e = record (filled_in pending e) {
   debit_account_id = pending.debit_account_id;
   credit_account_id = pending.credit_account_id;
   ledger = pending.ledger;
@@ -50,9 +50,12 @@ stamped timestamp e = record e { timestamp = timestamp }
 abbrev pub stored_account : List Entry → ℕ → Account → Account
 stored_account journal timestamp e = record e { timestamp = timestamp }
 
--- a post or void is stored filled in from its pending transfer, any other transfer as the event, each with its timestamp
+-- a post or void is stored filled in from the pending transfer that it names
+abbrev pub stored_settling : List Entry → ℕ → Transfer → Transfer
+stored_settling journal timestamp e =
+    option_map_or (λ pending. settled pending timestamp e) (transfer_with_id journal e.pending_id) (stamped timestamp e)
+
+-- any other transfer is stored as the event, with its timestamp
 abbrev pub stored_transfer : List Entry → ℕ → Transfer → Transfer
 stored_transfer journal timestamp e =
-    if is_settling e
-    then option_map_or (λ pending. stored_settling pending timestamp e) (transfer_of journal e.pending_id) (stamped timestamp e)
-    else stamped timestamp e
+    if is_settling e then stored_settling journal timestamp e else stamped timestamp e

@@ -1,6 +1,6 @@
 -- Verdicts: the result of an event, judged at a moment after a journal. Each is the outcome of the first
 -- line of a table that holds, else ok.
-use Rattle.std.specs.Prelude.{ℕ, ◌+◌, ◌-◌, ◌*◌, ◌^◌, ◌==◌, nat_lt, nat_le, not, ◌&&◌, ◌||◌, is_none, Bool, true, false, List, [], ◌∷◌, Option, Some, None, if◌then◌else◌}
+use Rattle.std.specs.Prelude.{ℕ, ◌+◌, ◌-◌, ◌*◌, ◌^◌, ◌==◌, nat_lt, nat_le, not, ◌&&◌, ◌||◌, is_none, Bool, true, false, List, [], ◌∷◌, ◌++◌, Option, Some, None, if◌then◌else◌}
 use Rattle.std.specs.Option.{option_map, option_map_or, unwrap_or}
 use Rattle.tf_records.specs.declared.account.Account.{Account}
 use Rattle.tf_records.specs.declared.transfer.Transfer.{Transfer}
@@ -14,7 +14,7 @@ use Rattle.tf_journal.specs.Flags.{limits_debits, limits_credits, has_reserved_a
 use Rattle.tf_journal.specs.Journal.{is_failed, last_timestamp}
 use Rattle.tf_journal.specs.Status.{status_of}
 use Rattle.tf_journal.specs.Balances.{pending_on, posted_on, greatest_amount}
-use Rattle.tf_journal.specs.Lookup.{stored_account_of, account_of, transfer_of, is_closed_at}
+use Rattle.tf_journal.specs.Lookup.{account_with_id, shown_with_id, transfer_with_id, is_closed_at}
 use Rattle.tf_journal.specs.Stored.{filled_in, settled_amount}
 
 -- the greatest number that an id can be, which none may be
@@ -92,7 +92,7 @@ repeated differences = unwrap_or (first_fault differences) outcome.Exists
 abbrev pub account_verdict : List Entry → ℕ → Account → Outcome
 account_verdict journal timestamp e = verdict_of (
     first_fault (account_faults e)
-    ∷ option_map (λ stored. repeated (account_differences e stored)) (account_of journal e.id)
+    ∷ option_map (λ stored. repeated (account_differences e stored)) (shown_with_id journal e.id)
     ∷ [])
 
 -- flags that exclude each other: two of pending, post and void, or one of post and void with one that closes
@@ -155,33 +155,33 @@ transfer_differences e stored =
 -- a transfer event as it is compared with a stored one: a post or void filled in from its pending transfer
 abbrev pub compared : List Entry → Transfer → Transfer
 compared journal e =
-    if is_settling e then option_map_or (λ pending. filled_in pending e) (transfer_of journal e.pending_id) e else e
+    if is_settling e then option_map_or (λ pending. filled_in pending e) (transfer_with_id journal e.pending_id) e else e
 
 -- the result of a transfer event whose id is in use: it is compared with the stored transfer, or the id failed before
 abbrev pub used_id_fault : List Entry → Transfer → Option Outcome
 used_id_fault journal e =
-    option_map_or (λ stored. Some (repeated (transfer_differences (compared journal e) stored))) (transfer_of journal e.id)
+    option_map_or (λ stored. Some (repeated (transfer_differences (compared journal e) stored))) (transfer_with_id journal e.id)
     (if is_failed journal e.id then Some outcome.IdAlreadyFailed else None)
 
 -- the ledger of the stored account with this id, 0 where there is none
 abbrev pub ledger_of : List Entry → ℕ → ℕ
-ledger_of journal id = option_map_or (λ account. account.ledger) (stored_account_of journal id) 0
+ledger_of journal id = option_map_or (λ account. account.ledger) (account_with_id journal id) 0
 
 -- whether the stored account with this id has a limit
 abbrev pub has_limit : (Account → Bool) → List Entry → ℕ → Bool
-has_limit limits journal id = option_map_or limits (stored_account_of journal id) false
+has_limit limits journal id = option_map_or limits (account_with_id journal id) false
 
 -- what can keep the accounts of a moving transfer from taking it
-abbrev pub accounts_faults : List Entry → ℕ → Transfer → List (Bool × Outcome)
-accounts_faults journal timestamp e =
+abbrev pub sides_faults : List Entry → ℕ → Transfer → List (Bool × Outcome)
+sides_faults journal timestamp e =
     let debit = e.debit_account_id in
     let credit = e.credit_account_id in
     let debits_pending = pending_on journal Debit debit in
     let debits_posted = posted_on journal Debit debit in
     let credits_pending = pending_on journal Credit credit in
     let credits_posted = posted_on journal Credit credit in
-    (is_none (stored_account_of journal debit), outcome.DebitAccountNotFound)
-    ∷ (is_none (stored_account_of journal credit), outcome.CreditAccountNotFound)
+    (is_none (account_with_id journal debit), outcome.DebitAccountNotFound)
+    ∷ (is_none (account_with_id journal credit), outcome.CreditAccountNotFound)
     ∷ (not (ledger_of journal debit == ledger_of journal credit), outcome.AccountsMustHaveTheSameLedger)
     ∷ (not (e.ledger == ledger_of journal debit), outcome.TransferMustHaveTheSameLedgerAsAccounts)
     ∷ (is_closed_at journal debit, outcome.DebitAccountAlreadyClosed)
@@ -225,10 +225,9 @@ is_expired_status _ = false
 abbrev pub is_overdue : ℕ → Transfer → Bool
 is_overdue moment pending = not (pending.timeout == 0) && nat_le (expires_at pending) moment
 
--- what can keep a pending transfer from being posted or voided
-abbrev pub pending_faults : List Entry → ℕ → Transfer → Transfer → List (Bool × Outcome)
-pending_faults journal timestamp e pending =
-    let status = status_of journal pending in
+-- what of a post or void can fail to fit the pending transfer that it names
+abbrev pub mismatches : Transfer → Transfer → List (Bool × Outcome)
+mismatches pending e =
     (not (is_pending pending), outcome.PendingTransferNotPending)
     ∷ (contradicts pending.debit_account_id e.debit_account_id, outcome.PendingTransferHasDifferentDebitAccountId)
     ∷ (contradicts pending.credit_account_id e.credit_account_id, outcome.PendingTransferHasDifferentCreditAccountId)
@@ -236,12 +235,28 @@ pending_faults journal timestamp e pending =
     ∷ (contradicts pending.code e.code, outcome.PendingTransferHasDifferentCode)
     ∷ (nat_lt pending.amount (settled_amount pending e), outcome.ExceedsPendingTransferAmount)
     ∷ (is_void e && nat_lt (settled_amount pending e) pending.amount, outcome.PendingTransferHasDifferentAmount)
-    ∷ (is_posted_status status, outcome.PendingTransferAlreadyPosted)
+    ∷ []
+
+-- what can have become of a pending transfer that keeps it from being posted or voided at this moment
+abbrev pub status_faults : List Entry → ℕ → Transfer → List (Bool × Outcome)
+status_faults journal moment pending =
+    let status = status_of journal pending in
+    (is_posted_status status, outcome.PendingTransferAlreadyPosted)
     ∷ (is_voided_status status, outcome.PendingTransferAlreadyVoided)
-    ∷ (is_expired_status status || is_overdue timestamp pending, outcome.PendingTransferExpired)
-    ∷ (is_post e && is_closed_at journal pending.debit_account_id, outcome.DebitAccountAlreadyClosed)
+    ∷ (is_expired_status status || is_overdue moment pending, outcome.PendingTransferExpired)
+    ∷ []
+
+-- which account of a pending transfer can be closed, so that it can't be posted; it can be voided
+abbrev pub closed_faults : List Entry → Transfer → Transfer → List (Bool × Outcome)
+closed_faults journal e pending =
+    (is_post e && is_closed_at journal pending.debit_account_id, outcome.DebitAccountAlreadyClosed)
     ∷ (is_post e && is_closed_at journal pending.credit_account_id, outcome.CreditAccountAlreadyClosed)
     ∷ []
+
+-- what can keep a pending transfer from being posted or voided
+abbrev pub pending_faults : List Entry → ℕ → Transfer → Transfer → List (Bool × Outcome)
+pending_faults journal timestamp e pending =
+    mismatches pending e ++ status_faults journal timestamp pending ++ closed_faults journal e pending
 
 -- what can be wrong with a post or void that names this pending transfer, if one is stored
 abbrev pub named_fault : List Entry → ℕ → Transfer → Option Transfer → Option Outcome
@@ -254,7 +269,7 @@ settling_verdict journal timestamp e = verdict_of (
     first_fault (transfer_faults e)
     ∷ first_fault (settling_faults e)
     ∷ used_id_fault journal e
-    ∷ named_fault journal timestamp e (transfer_of journal e.pending_id)
+    ∷ named_fault journal timestamp e (transfer_with_id journal e.pending_id)
     ∷ [])
 
 -- the verdict on any other transfer
@@ -263,7 +278,7 @@ moving_verdict journal timestamp e = verdict_of (
     first_fault (transfer_faults e)
     ∷ first_fault (moving_faults e)
     ∷ used_id_fault journal e
-    ∷ first_fault (accounts_faults journal timestamp e)
+    ∷ first_fault (sides_faults journal timestamp e)
     ∷ [])
 
 -- the verdict on a transfer event, judged at this timestamp after the journal

@@ -9,7 +9,7 @@ ghost use Rattle.tf_journal.specs.Lookup.{shown};
 ghost use Rattle.tf_journal.specs.Steps.{amount_on, released, set_aside};
 ghost use Rattle.tf_journal.specs.declared.side.Side.{Side};
 
-use crate::flags::{has, pends, settles};
+use crate::flags::{has_flag, is_pending, is_settling};
 use crate::walk::{find_pending, find_transfer, stays_closed};
 use crate::{Entry, Side};
 use tf_records::{Account, Sums, Transfer};
@@ -30,8 +30,8 @@ fn posted(entry: &Entry, side: Side, id: u128) -> u128
 {
     match entry {
         Entry::Transfer(transfer) => {
-            let void = has(transfer.flags, Transfer::VOID_PENDING_TRANSFER);
-            if account_of_side(side, transfer) == id && !pends(transfer) && !void {
+            let void = has_flag(transfer.flags, Transfer::VOID_PENDING_TRANSFER);
+            if account_of_side(side, transfer) == id && !is_pending(transfer) && !void {
                 transfer.amount
             } else {
                 0
@@ -47,7 +47,7 @@ fn newly_pending(entry: &Entry, side: Side, id: u128) -> u128
 {
     match entry {
         Entry::Transfer(transfer) => {
-            if account_of_side(side, transfer) == id && pends(transfer) {
+            if account_of_side(side, transfer) == id && is_pending(transfer) {
                 transfer.amount
             } else {
                 0
@@ -82,7 +82,7 @@ fn ended_by(entries: &[Entry], entry: &Entry, id: u128) -> Option<Transfer>
 {
     match entry {
         Entry::Transfer(transfer) => {
-            if settles(transfer) && has_account(transfer, id) {
+            if is_settling(transfer) && has_account(transfer, id) {
                 find_transfer(entries, transfer.pending_id)
             } else {
                 None

@@ -6,33 +6,43 @@ ghost use Rattle.std.specs.Option.{option_map_or};
 ghost use Rattle.tf_journal.specs.Due.{due, expires_before, next_due_of};
 ghost use Rattle.tf_journal.specs.Expired.{HasExpired, ends, first_due, holds_due};
 ghost use Rattle.tf_journal.specs.Lawful.{IsSound};
-ghost use Rattle.tf_journal.specs.Verdict.{expires_at, is_overdue};
+ghost use Rattle.tf_journal.specs.Verdict as table;
 
 use crate::Entry;
-use crate::flags::pends;
+use crate::flags::is_pending;
 use crate::walk::{find_pending, stays_open};
 use tf_records::Transfer;
 
-/// When a pending transfer expires, in nanoseconds.
-fn expiry_moment(transfer: &Transfer) -> u128
-    ensures { result ≡ expires_at transfer.now }
+/// When a pending transfer with this timestamp, in nanoseconds, and timeout, in seconds, expires: in nanoseconds.
+///
+/// It may be past the greatest timestamp.
+pub fn expiry_of(timestamp: u64, timeout: u32) -> u128
+    ensures { result ≡ table.expiry_of timestamp timeout }
 {
-    u128::from(transfer.timestamp) + u128::from(transfer.timeout) * 1_000_000_000
+    u128::from(timestamp) + u128::from(timeout) * 1_000_000_000
 }
 
-/// Whether the time of a pending transfer is over at this moment.
-fn is_over(transfer: &Transfer, at: u64) -> bool
-    ensures { result ≡ is_overdue at transfer.now }
+/// When a stored pending transfer expires, in nanoseconds.
+pub fn expires_at(transfer: &Transfer) -> u128
+    ensures { result ≡ table.expires_at transfer.now }
 {
-    transfer.timeout != 0 && expiry_moment(transfer) <= u128::from(at)
+    expiry_of(transfer.timestamp, transfer.timeout)
+}
+
+/// Whether the time of a stored pending transfer is over at this moment, whether or not an expiry says so. One with
+/// a timeout of 0 never expires.
+pub fn is_overdue(moment: u64, transfer: &Transfer) -> bool
+    ensures { result ≡ table.is_overdue moment transfer.now }
+{
+    transfer.timeout != 0 && expires_at(transfer) <= u128::from(moment)
 }
 
 /// Whether a transfer expires before another.
 fn is_sooner(first: &Transfer, second: &Transfer) -> bool
     ensures { result ≡ expires_before first.now second.now }
 {
-    let one = expiry_moment(first);
-    let other = expiry_moment(second);
+    let one = expires_at(first);
+    let other = expires_at(second);
     one < other || (one == other && first.timestamp < second.timestamp)
 }
 
@@ -95,8 +105,8 @@ fn first_with(
 {
     match entry {
         Entry::Transfer(transfer)
-            if pends(transfer)
-                && is_over(transfer, at)
+            if is_pending(transfer)
+                && is_overdue(at, transfer)
                 && is_after(transfer, last)
                 && is_before(transfer, first)
                 && stays_open(entries, transfer) => { Some(*transfer) }
@@ -122,7 +132,7 @@ fn is_due_entry(entries: &[Entry], at: u64, entry: &Entry) -> bool
 {
     match entry {
         Entry::Transfer(transfer) => {
-            pends(transfer) && is_over(transfer, at) && stays_open(entries, transfer)
+            is_pending(transfer) && is_overdue(at, transfer) && stays_open(entries, transfer)
         }
         _ => false,
     }

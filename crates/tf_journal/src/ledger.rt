@@ -6,7 +6,7 @@ ghost use Rattle.tf_journal.specs.Due.{due, next_due_of};
 ghost use Rattle.tf_journal.specs.Journal.{IsJournal, IsUpTo, is_failed};
 ghost use Rattle.tf_journal.specs.Lawful.{IsAdmitted};
 ghost use Rattle.tf_journal.specs.Ledger.{CanGrow, IsAddition};
-ghost use Rattle.tf_journal.specs.Lookup.{account_of, id_use_of, transfer_of};
+ghost use Rattle.tf_journal.specs.Lookup.{shown_with_id, id_use_of, transfer_with_id};
 ghost use Rattle.tf_journal.specs.Status.{status_at};
 
 use crate::{Entry, IdUse, Status};
@@ -39,11 +39,11 @@ pub trait Ledger {
 
     /// The account with this id, its four sums filled in, and marked as closed where it is. Takes no memory.
     fn account(&self, id: u128) -> Option<Account>
-        ensures { result ≡ account_of (journal self.now) id };
+        ensures { result ≡ shown_with_id (journal self.now) id };
 
     /// The transfer with this id. Takes no memory.
     fn transfer(&self, id: u128) -> Option<Transfer>
-        ensures { result ≡ transfer_of (journal self.now) id };
+        ensures { result ≡ transfer_with_id (journal self.now) id };
 
     /// Whether a transfer with this id failed for a passing reason. Takes no memory.
     fn failed(&self, id: u128) -> bool

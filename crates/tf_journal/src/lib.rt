@@ -25,9 +25,13 @@ mod tests;
 mod walk;
 
 pub use entry::Entry;
+pub use expiry::{expires_at, expiry_of, is_overdue};
 pub use filter::{
     is_valid_account_filter, is_valid_query_filter, matches_account, matches_account_filter,
     matches_transfer,
+};
+pub use flags::{
+    has_flag, is_closing, is_marked_closed, is_pending, is_post, is_settling, is_void,
 };
 pub use id_use::IdUse;
 pub use laws::{

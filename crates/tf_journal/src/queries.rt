@@ -3,7 +3,7 @@
 ghost use Rattle.std.specs.Prelude.{◌≡◌, false, length, IfErr, IfOk, IsOk, MatchOption};
 ghost use Rattle.tf_journal.specs.Answer.{account_transfers_of, balance_after, found_accounts_of, found_transfers_of, history_of, lookup_refusal, looked_up_accounts, looked_up_transfers};
 ghost use Rattle.tf_journal.specs.Filter.{account_search, is_valid_account_filter, is_valid_query_filter, query_search, searched_account, searched_transfer};
-ghost use Rattle.tf_journal.specs.Flags.{has_flag};
+ghost use Rattle.tf_journal.specs.Flags as flag;
 ghost use Rattle.tf_journal.specs.Journal.{account_in, transfer_in};
 ghost use Rattle.tf_journal.specs.Lookup.{shown};
 
@@ -12,7 +12,7 @@ use crate::filter::{
     is_valid_account_filter, is_valid_query_filter, matches_account, matches_account_filter,
     matches_transfer,
 };
-use crate::flags::has;
+use crate::flags::has_flag;
 use crate::history::balance_after;
 use crate::search::{Order, Query, answer};
 use crate::walk::find_account;
@@ -57,7 +57,7 @@ pub fn get_account_balances<A: Allocator, B: Allocator>(
     ensures invalid { is_valid_account_filter filter.now ≡ false → IsOk result }
 {
     match find_account(ledger.entries(), filter.account_id) {
-        Some(account) if has(account.flags, Account::HISTORY) => {
+        Some(account) if has_flag(account.flags, Account::HISTORY) => {
             answer(alloc, ledger.entries(), &AccountBalances { filter })
         }
         _ => Ok(Vec::new(alloc)),
@@ -149,7 +149,7 @@ pub fn lookup_transfers<A: Allocator, B: Allocator>(
 /// What a filter of an account's transfers says of the rows.
 fn account_order(filter: &AccountFilter) -> Order
     ensures valid { result.is_valid ≡ is_valid_account_filter filter.now }
-    ensures reversed { result.is_reversed ≡ has_flag filter.now.flags 4 }
+    ensures reversed { result.is_reversed ≡ flag.has_flag filter.now.flags 4 }
     ensures limit { result.limit ≡ filter.now.limit }
 {
     Order {
@@ -162,7 +162,7 @@ fn account_order(filter: &AccountFilter) -> Order
 /// What a filter of all records says of the rows.
 fn query_order(filter: &QueryFilter) -> Order
     ensures valid { result.is_valid ≡ is_valid_query_filter filter.now }
-    ensures reversed { result.is_reversed ≡ has_flag filter.now.flags 1 }
+    ensures reversed { result.is_reversed ≡ flag.has_flag filter.now.flags 1 }
     ensures limit { result.limit ≡ filter.now.limit }
 {
     Order {

@@ -4,16 +4,16 @@ ghost use Rattle.std.specs.Prelude.{◌≡◌};
 ghost use Rattle.std.specs.List.{list_any};
 ghost use Rattle.tf_journal.specs.Closed.{closes, is_closed};
 ghost use Rattle.tf_journal.specs.Journal.{fails, is_failed};
-ghost use Rattle.tf_journal.specs.Lookup.{stored_account_of, transfer_of};
+ghost use Rattle.tf_journal.specs.Lookup.{account_with_id, transfer_with_id};
 ghost use Rattle.tf_journal.specs.Status.{expires, is_open, pending_at, posts, status_of, voids};
 
-use crate::flags::{has, pends};
+use crate::flags::{has_flag, is_pending};
 use crate::{Entry, Status};
 use tf_records::{Account, Transfer};
 
 /// The account with this id as it was stored.
 pub fn find_account(entries: &[Entry], id: u128) -> Option<Account>
-    ensures { result ≡ stored_account_of entries.now id }
+    ensures { result ≡ account_with_id entries.now id }
 {
     entries
         .iter()
@@ -23,7 +23,7 @@ pub fn find_account(entries: &[Entry], id: u128) -> Option<Account>
 
 /// The transfer with this id.
 pub fn find_transfer(entries: &[Entry], id: u128) -> Option<Transfer>
-    ensures { result ≡ transfer_of entries.now id }
+    ensures { result ≡ transfer_with_id entries.now id }
 {
     entries
         .iter()
@@ -35,7 +35,7 @@ pub fn find_transfer(entries: &[Entry], id: u128) -> Option<Transfer>
 pub fn find_pending(entries: &[Entry], timestamp: u64) -> Option<Transfer>
     ensures { result ≡ pending_at entries.now timestamp }
 {
-    entries.iter().filter_map(Entry::transfer).find(|transfer| pends(transfer)
+    entries.iter().filter_map(Entry::transfer).find(|transfer| is_pending(transfer)
         && transfer.timestamp == timestamp)
 }
 
@@ -60,7 +60,7 @@ fn is_post_of(entry: &Entry, pending: &Transfer) -> bool
 {
     match entry {
         Entry::Transfer(transfer) => {
-            has(transfer.flags, Transfer::POST_PENDING_TRANSFER)
+            has_flag(transfer.flags, Transfer::POST_PENDING_TRANSFER)
                 && transfer.pending_id == pending.id
         }
         _ => false,
@@ -72,7 +72,7 @@ fn is_void_of(entry: &Entry, pending: &Transfer) -> bool
 {
     match entry {
         Entry::Transfer(transfer) => {
-            has(transfer.flags, Transfer::VOID_PENDING_TRANSFER)
+            has_flag(transfer.flags, Transfer::VOID_PENDING_TRANSFER)
                 && transfer.pending_id == pending.id
         }
         _ => false,
@@ -139,9 +139,9 @@ fn is_closing(entries: &[Entry], id: u128, entry: &Entry) -> bool
 {
     match entry {
         Entry::Transfer(transfer) => {
-            let debit = has(transfer.flags, Transfer::CLOSING_DEBIT);
-            let credit = has(transfer.flags, Transfer::CLOSING_CREDIT);
-            pends(transfer)
+            let debit = has_flag(transfer.flags, Transfer::CLOSING_DEBIT);
+            let credit = has_flag(transfer.flags, Transfer::CLOSING_CREDIT);
+            is_pending(transfer)
                 && ((debit && transfer.debit_account_id == id)
                     || (credit && transfer.credit_account_id == id))
                 && stays_open(entries, transfer)
@@ -160,5 +160,5 @@ fn has_closing(entries: &[Entry], id: u128) -> bool
 pub fn stays_closed(entries: &[Entry], account: &Account) -> bool
     ensures { result ≡ is_closed entries.now account.now }
 {
-    has(account.flags, Account::CLOSED) || has_closing(entries, account.id)
+    has_flag(account.flags, Account::CLOSED) || has_closing(entries, account.id)
 }

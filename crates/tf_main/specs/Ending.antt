@@ -32,8 +32,8 @@ fault_status (BadLine line column) = 1
 fault_status (CannotWrite error) = 1
 
 -- the exit status: 0 after a whole run
-abbrev pub status_of : Ending → ℕ
-status_of Done = 0
-status_of Usage = 1
-status_of (CannotRead name) = 1
-status_of (Fault fault) = fault_status fault
+abbrev pub exit_status_of : Ending → ℕ
+exit_status_of Done = 0
+exit_status_of Usage = 1
+exit_status_of (CannotRead name) = 1
+exit_status_of (Fault fault) = fault_status fault

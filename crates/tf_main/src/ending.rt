@@ -1,7 +1,7 @@
 //! How the program ends: its last line on standard error, and its exit status.
 
 ghost use Rattle.std.specs.Prelude.{◌≡◌};
-ghost use Rattle.tf_main.specs.Ending.{bad_line, ending_line, fault_line, fault_status, status_of};
+ghost use Rattle.tf_main.specs.Ending.{bad_line, ending_line, fault_line, fault_status, exit_status_of};
 ghost use Rattle.tf_main.specs.Output.{AppendsFront, joined};
 
 use crate::RunFault;
@@ -29,7 +29,7 @@ pub enum Ending {
 ///
 /// A writer that fails keeps the part of the line that it took: there is nobody left to tell.
 pub fn report<W: Write>(ending: &Ending, err: &mut W) -> u8
-    ensures status { result ≡ status_of ending.now }
+    ensures status { result ≡ exit_status_of ending.now }
     ensures line { AppendsFront (W.contents err.old) (W.contents err.new) (ending_line ending.now) }
 {
     match ending {

@@ -8,11 +8,12 @@ use Rattle.tf_records.specs.declared.transfer.Transfer.{Transfer}
 use Rattle.tf_journal.specs.declared.entry.Entry.{Entry}
 use Rattle.tf_journal.specs.Flags.{is_settling}
 use Rattle.tf_journal.specs.Journal.{is_failed}
-use Rattle.tf_journal.specs.Lookup.{transfer_of}
-use Rattle.tf_journal.specs.Stored.{filled_in, stamped, stored_settling}
+use Rattle.tf_journal.specs.Lookup.{transfer_with_id}
+use Rattle.tf_journal.specs.Stored.{filled_in, stamped, settled}
 use Rattle.tf_journal.specs.Verdict.{compared, first_fault, is_accepted, moving_verdict, named_fault, pending_faults, repeated, settling_faults, settling_verdict, transfer_differences, transfer_faults, transfer_verdict, used_id_fault, verdict_of}
 use Rattle.tf_journal.proofs.Accepted.{first_fault-refuses, used_id_refuses}
-use Rattle.tf_pending.specs.Judgement.{IsJudgement, fault_of_id}
+use Rattle.tf_pending.specs.Judgement.{IsJudgement}
+use Rattle.tf_pending.specs.Parts.{fault_of_id}
 
 -- a post or void that isn't wrong by itself
 pub record IsFaultless (e : Transfer) : Type 0 where
@@ -23,31 +24,31 @@ pub record IsFaultless (e : Transfer) : Type 0 where
 -- the id of an event that is compared as another one with its id
 used_as : (journal : List Entry) (e other : Transfer) → compared journal e ≡ other → other.id ≡ e.id → used_id_fault journal e ≡ fault_of_id journal other
 used_as journal e other is same =
-    ap (λ x. option_map_or (λ stored. Some (repeated (transfer_differences x stored))) (transfer_of journal e.id) (if is_failed journal e.id then Some outcome.IdAlreadyFailed else None)) is
-    ∙ ap (λ n. option_map_or (λ stored. Some (repeated (transfer_differences other stored))) (transfer_of journal n) (if is_failed journal n then Some outcome.IdAlreadyFailed else None)) (sym same)
+    ap (λ x. option_map_or (λ stored. Some (repeated (transfer_differences x stored))) (transfer_with_id journal e.id) (if is_failed journal e.id then Some outcome.IdAlreadyFailed else None)) is
+    ∙ ap (λ n. option_map_or (λ stored. Some (repeated (transfer_differences other stored))) (transfer_with_id journal n) (if is_failed journal n then Some outcome.IdAlreadyFailed else None)) (sym same)
 
 -- where the pending transfer isn't stored, an event is compared as it is
-pub used_missing : (journal : List Entry) (e : Transfer) → is_settling e ≡ true → transfer_of journal e.pending_id ≡ None → used_id_fault journal e ≡ fault_of_id journal e
+pub used_missing : (journal : List Entry) (e : Transfer) → is_settling e ≡ true → transfer_with_id journal e.pending_id ≡ None → used_id_fault journal e ≡ fault_of_id journal e
 used_missing journal e settling missing =
-    used_as journal e e (ap (λ b. if b then option_map_or (λ pending. filled_in pending e) (transfer_of journal e.pending_id) e else e) settling
+    used_as journal e e (ap (λ b. if b then option_map_or (λ pending. filled_in pending e) (transfer_with_id journal e.pending_id) e else e) settling
     ∙ ap (λ found. option_map_or (λ pending. filled_in pending e) found e) missing) refl
 
 -- and where it is, as it is filled in
-pub used_filled : (journal : List Entry) (e pending : Transfer) → is_settling e ≡ true → transfer_of journal e.pending_id ≡ Some pending
+pub used_filled : (journal : List Entry) (e pending : Transfer) → is_settling e ≡ true → transfer_with_id journal e.pending_id ≡ Some pending
     → used_id_fault journal e ≡ fault_of_id journal (filled_in pending e)
 used_filled journal e pending settling found =
-    used_as journal e (filled_in pending e) (ap (λ b. if b then option_map_or (λ p. filled_in p e) (transfer_of journal e.pending_id) e else e) settling
+    used_as journal e (filled_in pending e) (ap (λ b. if b then option_map_or (λ p. filled_in p e) (transfer_with_id journal e.pending_id) e else e) settling
     ∙ ap (λ p. option_map_or (λ x. filled_in x e) p e) found) refl
 
 -- a post or void that isn't wrong by itself is judged by its id and by its pending transfer
 judged_by : (journal : List Entry) (timestamp : ℕ) (e : Transfer) (used : Option Outcome) (pending : Option Transfer) → IsFaultless e
-    → used_id_fault journal e ≡ used → transfer_of journal e.pending_id ≡ pending
+    → used_id_fault journal e ≡ used → transfer_with_id journal e.pending_id ≡ pending
     → transfer_verdict journal timestamp e ≡ verdict_of (used ∷ named_fault journal timestamp e pending ∷ [])
 judged_by journal timestamp e used pending is uses names =
     ap (λ b. if b then settling_verdict journal timestamp e else moving_verdict journal timestamp e) is.settling
-    ∙ ap (λ s. verdict_of (s ∷ first_fault (settling_faults e) ∷ used_id_fault journal e ∷ named_fault journal timestamp e (transfer_of journal e.pending_id) ∷ [])) is.faults
-    ∙ ap (λ s. verdict_of (s ∷ used_id_fault journal e ∷ named_fault journal timestamp e (transfer_of journal e.pending_id) ∷ [])) is.own_faults
-    ∙ ap (λ s. verdict_of (s ∷ named_fault journal timestamp e (transfer_of journal e.pending_id) ∷ [])) uses
+    ∙ ap (λ s. verdict_of (s ∷ first_fault (settling_faults e) ∷ used_id_fault journal e ∷ named_fault journal timestamp e (transfer_with_id journal e.pending_id) ∷ [])) is.faults
+    ∙ ap (λ s. verdict_of (s ∷ used_id_fault journal e ∷ named_fault journal timestamp e (transfer_with_id journal e.pending_id) ∷ [])) is.own_faults
+    ∙ ap (λ s. verdict_of (s ∷ named_fault journal timestamp e (transfer_with_id journal e.pending_id) ∷ [])) uses
     ∙ ap (λ p. verdict_of (used ∷ named_fault journal timestamp e p ∷ [])) names
 
 -- a refusal is a judgement
@@ -56,7 +57,7 @@ refused : (journal : List Entry) (timestamp : ℕ) (e : Transfer) (o : Outcome) 
 refused journal timestamp e o is refuses = record { accepted = tt; stored = tt; refused = sym is; fault = refuses }
 
 -- the pending transfer isn't stored
-pub judged_missing : (journal : List Entry) (timestamp : ℕ) (e : Transfer) → IsFaultless e → transfer_of journal e.pending_id ≡ None
+pub judged_missing : (journal : List Entry) (timestamp : ℕ) (e : Transfer) → IsFaultless e → transfer_with_id journal e.pending_id ≡ None
     → IsJudgement journal timestamp e (Err (unwrap_or (fault_of_id journal e) outcome.PendingTransferNotFound))
 judged_missing journal timestamp e is missing =
     let uses = used_missing journal e is.settling missing in
@@ -68,14 +69,14 @@ judged_missing journal timestamp e is missing =
     cases (fault_of_id journal e) uses
 
 -- the id is in use
-pub judged_used : (journal : List Entry) (timestamp : ℕ) (e pending : Transfer) (o : Outcome) → IsFaultless e → transfer_of journal e.pending_id ≡ Some pending
+pub judged_used : (journal : List Entry) (timestamp : ℕ) (e pending : Transfer) (o : Outcome) → IsFaultless e → transfer_with_id journal e.pending_id ≡ Some pending
     → fault_of_id journal (filled_in pending e) ≡ Some o → IsJudgement journal timestamp e (Err o)
 judged_used journal timestamp e pending o is found used =
     let uses = used_filled journal e pending is.settling found ∙ used in
     refused journal timestamp e o (judged_by journal timestamp e (Some o) (Some pending) is uses found) (false_from_ne_true (is_accepted o) (used_id_refuses journal e o uses))
 
 -- the pending transfer can't be posted or voided
-pub judged_pending : (journal : List Entry) (timestamp : ℕ) (e pending : Transfer) (o : Outcome) → IsFaultless e → transfer_of journal e.pending_id ≡ Some pending
+pub judged_pending : (journal : List Entry) (timestamp : ℕ) (e pending : Transfer) (o : Outcome) → IsFaultless e → transfer_with_id journal e.pending_id ≡ Some pending
     → fault_of_id journal (filled_in pending e) ≡ None → first_fault (pending_faults journal timestamp e pending) ≡ Some o → IsJudgement journal timestamp e (Err o)
 judged_pending journal timestamp e pending o is found unused fault =
     refused journal timestamp e o
@@ -83,13 +84,13 @@ judged_pending journal timestamp e pending o is found unused fault =
     (false_from_ne_true (is_accepted o) (first_fault-refuses (pending_faults journal timestamp e pending) refl o fault))
 
 -- nothing is wrong
-pub judged_ok : (journal : List Entry) (timestamp : ℕ) (e pending : Transfer) → IsFaultless e → transfer_of journal e.pending_id ≡ Some pending
+pub judged_ok : (journal : List Entry) (timestamp : ℕ) (e pending : Transfer) → IsFaultless e → transfer_with_id journal e.pending_id ≡ Some pending
     → fault_of_id journal (filled_in pending e) ≡ None → first_fault (pending_faults journal timestamp e pending) ≡ None
-    → IsJudgement journal timestamp e (Ok (stored_settling pending timestamp e))
+    → IsJudgement journal timestamp e (Ok (settled pending timestamp e))
 judged_ok journal timestamp e pending is found unused passed = record {
   accepted = judged_by journal timestamp e None (Some pending) is (used_filled journal e pending is.settling found ∙ unused) found ∙ ap (λ f. verdict_of (None ∷ f ∷ [])) passed;
-  stored = sym (ap (λ b. if b then option_map_or (λ p. stored_settling p timestamp e) (transfer_of journal e.pending_id) (stamped timestamp e) else stamped timestamp e) is.settling
-      ∙ ap (λ found. option_map_or (λ p. stored_settling p timestamp e) found (stamped timestamp e)) found);
+  stored = sym (ap (λ b. if b then option_map_or (λ p. settled p timestamp e) (transfer_with_id journal e.pending_id) (stamped timestamp e) else stamped timestamp e) is.settling
+      ∙ ap (λ found. option_map_or (λ p. settled p timestamp e) found (stamped timestamp e)) found);
   refused = tt;
   fault = tt;
 }

@@ -10,7 +10,7 @@ use Rattle.tf_journal.specs.Lawful.{AreChained, IsLawfulAt, is_linked_entry}
 use Rattle.tf_journal.specs.Ledger.{CanGrow}
 use Rattle.tf_journal.proofs.Due.{due_expired, next_due_later}
 use Rattle.tf_journal.proofs.Sound.{journal_push, sound_push, up_to_later, up_to_push}
-use Rattle.tf_pending.specs.Pulse.{IsExpiring}
+use Rattle.tf_pending.specs.Parts.{IsExpiring}
 
 -- an element stands behind the first n of a list, and is the last of its first m
 abbrev StandsAt : {A : Type 0} → ℕ → ℕ → List A → A → Type 0

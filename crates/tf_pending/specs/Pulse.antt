@@ -1,10 +1,9 @@
 -- What a pulse leaves and answers.
-use Rattle.std.specs.Prelude.{◌≡◌, ℕ, ◌+◌, ◌<◌, ◌≤◌, ◌⊎◌, max, List, ◌++◌, length, take, drop, Result, Err, OnOk, OnErr, IfOk, IfErr, MatchOption, MatchResult}
+use Rattle.std.specs.Prelude.{◌≡◌, ℕ, List, length, Result, Err, OnOk, OnErr, IfOk, IfErr, MatchOption}
 use Rattle.tf_records.specs.declared.refusal.Refusal.{Refusal}
 use Rattle.tf_records.specs.declared.refusal.Refusal.TheVariants as refusal
 use Rattle.tf_journal.specs.declared.entry.Entry.{Entry}
-use Rattle.tf_journal.specs.Due.{due, expiries_of, pulse_step, pulse_refusal}
-use Rattle.tf_journal.specs.Journal.{last_timestamp}
+use Rattle.tf_journal.specs.Due.{pulse_step, pulse_refusal}
 use Rattle.tf_journal.specs.Lawful.{IsLawfulAt}
 use Rattle.tf_journal.specs.Ledger.{IsUnchanged}
 
@@ -19,10 +18,3 @@ pub record IsPulseRun {L : Type 0} (journal_of : L → List Entry) (clock_of kep
   pub kept : OnOk result (kept_of new ≡ length (journal_of new))
   pub unchanged : OnErr result (IsUnchanged journal_of clock_of kept_of old new)
   pub lawful : IsLawfulAt (clock_of new) (journal_of new)
-
--- so many of the transfers that are due at this moment after the first journal expired in the second one
-pub record IsExpiring (moment : ℕ) (start journal : List Entry) (count : ℕ) : Type 0 where
-  pub stored : journal ≡ start ++ expiries_of (moment + 1) (take count (due start moment))
-  pub within : count ≤ length (due start moment)
-  pub left : due journal moment ≡ drop count (due start moment)
-  pub lawful : IsLawfulAt (moment + count) journal

@@ -4,7 +4,8 @@ ghost use Rattle.std.specs.Prelude.{◌≡◌, ◌≤◌, ◌+◌, nat_le, lengt
 ghost use Rattle.tf_journal.specs.Due.{due};
 ghost use Rattle.tf_journal.specs.Journal.{last_timestamp};
 ghost use Rattle.tf_journal.specs.Lawful.{IsLawfulAt};
-ghost use Rattle.tf_pending.specs.Pulse.{IsExpiring, IsPulseRun};
+ghost use Rattle.tf_pending.specs.Pulse.{IsPulseRun};
+ghost use Rattle.tf_pending.specs.Parts.{IsExpiring};
 
 use tf_journal::Ledger;
 use tf_records::{BATCH_MAX, Refusal, TIMESTAMP_MAX};

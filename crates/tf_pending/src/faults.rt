@@ -4,7 +4,7 @@ ghost use Rattle.std.specs.Prelude.{◌≡◌};
 ghost use Rattle.tf_journal.specs.Flags.{has_reserved_transfer_flag};
 ghost use Rattle.tf_journal.specs.Verdict.{first_fault, has_exclusive_flags, settling_faults, transfer_faults};
 
-use crate::flags::{has_flag, is_closing, is_pending, is_post, is_settling, is_void};
+use tf_journal::{has_flag, is_closing, is_pending, is_post, is_settling, is_void};
 use tf_records::{ID_MAX, Outcome, Transfer};
 
 /// Whether a transfer has a flag that isn't in use.

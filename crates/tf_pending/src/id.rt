@@ -3,10 +3,9 @@
 ghost use Rattle.std.specs.Prelude.{◌≡◌};
 ghost use Rattle.tf_journal.specs.Stored as stored_record;
 ghost use Rattle.tf_journal.specs.Verdict as table;
-ghost use Rattle.tf_pending.specs.Judgement.{fault_of_id};
+ghost use Rattle.tf_pending.specs.Parts.{fault_of_id};
 
-use crate::flags::{is_post, is_settling};
-use tf_journal::{IdUse, Ledger};
+use tf_journal::{IdUse, Ledger, is_post, is_settling};
 use tf_records::{AMOUNT_MAX, Outcome, Transfer};
 
 /// What is wrong with the id of a transfer event: it is stored, so that the event is compared with the stored

@@ -8,7 +8,6 @@
 
 mod expiring;
 mod faults;
-mod flags;
 mod id;
 mod settling;
 #[cfg(test)]
@@ -16,6 +15,5 @@ mod tests;
 
 pub use expiring::pulse;
 pub use faults::transfer_fault;
-pub use flags::is_settling;
 pub use id::used_id_fault;
 pub use settling::{judge_settling, stored_settling, verdict_settling};

@@ -3,17 +3,16 @@
 ghost use Rattle.std.specs.Prelude.{◌≡◌, true, Option, Some};
 ghost use Rattle.tf_journal.specs.Flags as flag;
 ghost use Rattle.tf_journal.specs.Journal.{IsJournal};
-ghost use Rattle.tf_journal.specs.Lookup.{is_closed_at, transfer_of};
+ghost use Rattle.tf_journal.specs.Lookup.{is_closed_at, transfer_with_id};
 ghost use Rattle.tf_journal.specs.Status.{status_at, status_of};
 ghost use Rattle.tf_journal.specs.Stored as stored_record;
 ghost use Rattle.tf_journal.specs.Verdict as table;
-ghost use Rattle.tf_journal.specs.Verdict.{first_fault, pending_faults, transfer_verdict};
-ghost use Rattle.tf_pending.specs.Judgement.{IsJudgement, closed_faults, mismatches, status_faults};
+ghost use Rattle.tf_journal.specs.Verdict.{closed_faults, first_fault, mismatches, pending_faults, status_faults, transfer_verdict};
+ghost use Rattle.tf_pending.specs.Judgement.{IsJudgement};
 
 use crate::faults::{settling_fault, transfer_fault};
-use crate::flags::{is_closed, is_pending, is_post, is_void};
 use crate::id::{fill_in, id_fault, settled_amount};
-use tf_journal::{Ledger, Status};
+use tf_journal::{Ledger, Status, is_marked_closed, is_overdue, is_pending, is_post, is_void};
 use tf_records::{Outcome, Transfer};
 
 /// Judges a post or void at this timestamp: the record that it is stored as, or its verdict, the outcome of the
@@ -45,7 +44,7 @@ pub fn judge_settling<L: Ledger>(
     if let Some(fault) = pending_fault(ledger, timestamp, event, &pending) {
         return Err(fault);
     }
-    Ok(settle(&pending, timestamp, event))
+    Ok(settled(&pending, timestamp, event))
 }
 
 /// The verdict on a post or void, judged at this timestamp: the outcome of the first rule that it breaks, else
@@ -68,11 +67,10 @@ pub fn verdict_settling<L: Ledger>(ledger: &L, timestamp: u64, event: &Transfer)
 ///
 /// Takes no memory. Costs one look-up.
 pub fn stored_settling<L: Ledger>(ledger: &L, timestamp: u64, event: &Transfer) -> Transfer
-    requires settling { flag.is_settling event.now ≡ true }
-    ensures { result ≡ stored_record.stored_transfer (L.journal ledger.now) timestamp event.now }
+    ensures { result ≡ stored_record.stored_settling (L.journal ledger.now) timestamp event.now }
 {
     match ledger.transfer(event.pending_id) {
-        Some(pending) => settle(&pending, timestamp, event),
+        Some(pending) => settled(&pending, timestamp, event),
         None => Transfer {
             timestamp,
             ..*event
@@ -81,8 +79,8 @@ pub fn stored_settling<L: Ledger>(ledger: &L, timestamp: u64, event: &Transfer) 
 }
 
 /// A post or void as it is stored.
-fn settle(pending: &Transfer, timestamp: u64, event: &Transfer) -> Transfer
-    ensures { result ≡ stored_record.stored_settling pending.now timestamp event.now }
+fn settled(pending: &Transfer, timestamp: u64, event: &Transfer) -> Transfer
+    ensures { result ≡ stored_record.settled pending.now timestamp event.now }
 {
     Transfer {
         debit_account_id: pending.debit_account_id,
@@ -103,7 +101,7 @@ fn pending_fault<L: Ledger>(
     pending: &Transfer,
 ) -> Option<Outcome>
     requires journal { IsJournal (L.journal ledger.now) }
-    requires named { transfer_of (L.journal ledger.now) event.now.pending_id ≡ Some pending.now }
+    requires named { transfer_with_id (L.journal ledger.now) event.now.pending_id ≡ Some pending.now }
     ensures { result ≡ first_fault (pending_faults (L.journal ledger.now) timestamp event.now pending.now) }
 {
     if let Some(fault) = mismatch(pending, event) {
@@ -112,11 +110,7 @@ fn pending_fault<L: Ledger>(
     if let Some(fault) = status_fault(ledger, timestamp, pending) {
         return Some(fault);
     }
-    if is_post(event) {
-        closed_fault(ledger, pending)
-    } else {
-        None
-    }
+    closed_fault(ledger, event, pending)
 }
 
 /// What of a post or void doesn't fit the pending transfer that it names.
@@ -164,20 +158,13 @@ fn status_fault<L: Ledger>(ledger: &L, timestamp: u64, pending: &Transfer) -> Op
     }
 }
 
-/// Whether the time of a pending transfer is over at this moment.
-fn is_overdue(moment: u64, pending: &Transfer) -> bool
-    ensures { result ≡ table.is_overdue moment pending.now }
-{
-    let open_for = u128::from(pending.timeout) * 1_000_000_000;
-    let expires_at = u128::from(pending.timestamp) + open_for;
-    pending.timeout != 0 && expires_at <= u128::from(moment)
-}
-
 /// Which account of a pending transfer is closed, so that it can't be posted.
-fn closed_fault<L: Ledger>(ledger: &L, pending: &Transfer) -> Option<Outcome>
-    ensures { result ≡ first_fault (closed_faults (L.journal ledger.now) pending.now) }
+fn closed_fault<L: Ledger>(ledger: &L, event: &Transfer, pending: &Transfer) -> Option<Outcome>
+    ensures { result ≡ first_fault (closed_faults (L.journal ledger.now) event.now pending.now) }
 {
-    if is_closed_account(ledger, pending.debit_account_id) {
+    if !is_post(event) {
+        None
+    } else if is_closed_account(ledger, pending.debit_account_id) {
         Some(Outcome::DebitAccountAlreadyClosed)
     } else if is_closed_account(ledger, pending.credit_account_id) {
         Some(Outcome::CreditAccountAlreadyClosed)
@@ -191,7 +178,7 @@ fn is_closed_account<L: Ledger>(ledger: &L, id: u128) -> bool
     ensures { result ≡ is_closed_at (L.journal ledger.now) id }
 {
     match ledger.account(id) {
-        Some(account) => is_closed(&account),
+        Some(account) => is_marked_closed(&account),
         None => false,
     }
 }

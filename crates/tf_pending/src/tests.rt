@@ -5,13 +5,12 @@ ghost use Rattle.std.specs.Prelude.{IfOk};
 ghost use Rattle.tf_journal.specs.Lawful.{IsLawfulAt};
 
 use crate::{
-    is_settling, judge_settling, pulse, stored_settling, transfer_fault, used_id_fault,
-    verdict_settling,
+    judge_settling, pulse, stored_settling, transfer_fault, used_id_fault, verdict_settling,
 };
 use linked_list_allocator::LocalHeap;
 use std::alloc::Allocator;
 use std::test::Fail;
-use tf_journal::{Ledger, PlainLedger, Status};
+use tf_journal::{Ledger, PlainLedger, Status, is_settling};
 use tf_records::{AMOUNT_MAX, Account, Outcome, Refusal, TIMESTAMP_MAX, Transfer};
 
 /// A second, in nanoseconds.

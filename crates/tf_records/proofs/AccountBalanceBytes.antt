@@ -3,13 +3,13 @@ use Rattle.std.proofs.Common.{◌≡◌, ℕ, ◌^◌, ◌<◌, List, [], ◌∷
 use Rattle.std.proofs.Math.Seq.{take-length}
 use Rattle.std.proofs.lemmas.List.{append-nil}
 use Rattle.tf_records.specs.declared.account_balance.AccountBalance.{AccountBalance}
-use Rattle.tf_records.specs.Layout.{account_balance_bytes, account_balance_of}
+use Rattle.tf_records.specs.Layout.{account_balance_bytes, account_balance_of_bytes}
 use Rattle.tf_records.specs.LittleEndian.{little_endian, number_at, bytes_at}
 use Rattle.tf_records.proofs.Bytes.{length-little_endian, take-bytes_at, take-number_at}
 use Rattle.tf_records.proofs.Parts.{Parts, AreSized, joined, bytes_at-joined, number_at-bytes}
 
 -- the bytes of what was read are the bytes
-pub account_balance_bytes-account_balance_of : (bytes : List ℕ) → length bytes ≡ 128 → ((i : ℕ) → slice_index bytes i < 256) → account_balance_bytes (account_balance_of bytes) ≡ bytes
+pub account_balance_bytes-account_balance_of : (bytes : List ℕ) → length bytes ≡ 128 → ((i : ℕ) → slice_index bytes i < 256) → account_balance_bytes (account_balance_of_bytes bytes) ≡ bytes
 account_balance_bytes-account_balance_of bytes size small =
     let debits_pending : take 16 bytes ≡ little_endian 16 (number_at 0 16 bytes) = take-number_at 0 16 bytes (omega arith) small in
     let debits_posted : take 32 bytes ≡ take 16 bytes ++ little_endian 16 (number_at 16 16 bytes) = take-number_at 16 16 bytes (omega arith) small in
@@ -21,7 +21,7 @@ account_balance_bytes-account_balance_of bytes size small =
     cc
 
 -- what is read of the bytes is what was written
-pub account_balance_of-account_balance_bytes : (b : AccountBalance) → b.debits_pending < 256 ^ 16 → b.debits_posted < 256 ^ 16 → b.credits_pending < 256 ^ 16 → b.credits_posted < 256 ^ 16 → b.timestamp < 256 ^ 8 → length b.reserved ≡ 56 → account_balance_of (account_balance_bytes b) ≡ b
+pub account_balance_of-account_balance_bytes : (b : AccountBalance) → b.debits_pending < 256 ^ 16 → b.debits_posted < 256 ^ 16 → b.credits_pending < 256 ^ 16 → b.credits_posted < 256 ^ 16 → b.timestamp < 256 ^ 8 → length b.reserved ≡ 56 → account_balance_of_bytes (account_balance_bytes b) ≡ b
 account_balance_of-account_balance_bytes b in_debits_pending in_debits_posted in_credits_pending in_credits_posted in_timestamp in_reserved =
     let parts : Parts =
     (16, little_endian 16 b.debits_pending)

@@ -3,13 +3,13 @@ use Rattle.std.proofs.Common.{◌≡◌, ℕ, ◌^◌, ◌<◌, List, [], ◌∷
 use Rattle.std.proofs.Math.Seq.{take-length}
 use Rattle.std.proofs.lemmas.List.{append-nil}
 use Rattle.tf_records.specs.declared.account.Account.{Account}
-use Rattle.tf_records.specs.Layout.{account_bytes, account_of}
+use Rattle.tf_records.specs.Layout.{account_bytes, account_of_bytes}
 use Rattle.tf_records.specs.LittleEndian.{little_endian, number_at, bytes_at}
 use Rattle.tf_records.proofs.Bytes.{length-little_endian, take-number_at}
 use Rattle.tf_records.proofs.Parts.{Parts, AreSized, joined, bytes_at-joined, number_at-bytes}
 
 -- the bytes of what was read are the bytes
-pub account_bytes-account_of : (bytes : List ℕ) → length bytes ≡ 128 → ((i : ℕ) → slice_index bytes i < 256) → account_bytes (account_of bytes) ≡ bytes
+pub account_bytes-account_of : (bytes : List ℕ) → length bytes ≡ 128 → ((i : ℕ) → slice_index bytes i < 256) → account_bytes (account_of_bytes bytes) ≡ bytes
 account_bytes-account_of bytes size small =
     let id : take 16 bytes ≡ little_endian 16 (number_at 0 16 bytes) = take-number_at 0 16 bytes (omega arith) small in
     let debits_pending : take 32 bytes ≡ take 16 bytes ++ little_endian 16 (number_at 16 16 bytes) = take-number_at 16 16 bytes (omega arith) small in
@@ -28,7 +28,7 @@ account_bytes-account_of bytes size small =
     cc
 
 -- what is read of the bytes is what was written
-pub account_of-account_bytes : (a : Account) → a.id < 256 ^ 16 → a.debits_pending < 256 ^ 16 → a.debits_posted < 256 ^ 16 → a.credits_pending < 256 ^ 16 → a.credits_posted < 256 ^ 16 → a.user_data_128 < 256 ^ 16 → a.user_data_64 < 256 ^ 8 → a.user_data_32 < 256 ^ 4 → a.reserved < 256 ^ 4 → a.ledger < 256 ^ 4 → a.code < 256 ^ 2 → a.flags < 256 ^ 2 → a.timestamp < 256 ^ 8 → account_of (account_bytes a) ≡ a
+pub account_of-account_bytes : (a : Account) → a.id < 256 ^ 16 → a.debits_pending < 256 ^ 16 → a.debits_posted < 256 ^ 16 → a.credits_pending < 256 ^ 16 → a.credits_posted < 256 ^ 16 → a.user_data_128 < 256 ^ 16 → a.user_data_64 < 256 ^ 8 → a.user_data_32 < 256 ^ 4 → a.reserved < 256 ^ 4 → a.ledger < 256 ^ 4 → a.code < 256 ^ 2 → a.flags < 256 ^ 2 → a.timestamp < 256 ^ 8 → account_of_bytes (account_bytes a) ≡ a
 account_of-account_bytes a in_id in_debits_pending in_debits_posted in_credits_pending in_credits_posted in_user_data_128 in_user_data_64 in_user_data_32 in_reserved in_ledger in_code in_flags in_timestamp =
     let parts : Parts =
     (16, little_endian 16 a.id)

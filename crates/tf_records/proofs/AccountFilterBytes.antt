@@ -3,13 +3,13 @@ use Rattle.std.proofs.Common.{◌≡◌, ℕ, ◌^◌, ◌<◌, List, [], ◌∷
 use Rattle.std.proofs.Math.Seq.{take-length}
 use Rattle.std.proofs.lemmas.List.{append-nil}
 use Rattle.tf_records.specs.declared.account_filter.AccountFilter.{AccountFilter}
-use Rattle.tf_records.specs.Layout.{account_filter_bytes, account_filter_of}
+use Rattle.tf_records.specs.Layout.{account_filter_bytes, account_filter_of_bytes}
 use Rattle.tf_records.specs.LittleEndian.{little_endian, number_at, bytes_at}
 use Rattle.tf_records.proofs.Bytes.{length-little_endian, take-bytes_at, take-number_at}
 use Rattle.tf_records.proofs.Parts.{Parts, AreSized, joined, bytes_at-joined, number_at-bytes}
 
 -- the bytes of what was read are the bytes
-pub account_filter_bytes-account_filter_of : (bytes : List ℕ) → length bytes ≡ 128 → ((i : ℕ) → slice_index bytes i < 256) → account_filter_bytes (account_filter_of bytes) ≡ bytes
+pub account_filter_bytes-account_filter_of : (bytes : List ℕ) → length bytes ≡ 128 → ((i : ℕ) → slice_index bytes i < 256) → account_filter_bytes (account_filter_of_bytes bytes) ≡ bytes
 account_filter_bytes-account_filter_of bytes size small =
     let account_id : take 16 bytes ≡ little_endian 16 (number_at 0 16 bytes) = take-number_at 0 16 bytes (omega arith) small in
     let user_data_128 : take 32 bytes ≡ take 16 bytes ++ little_endian 16 (number_at 16 16 bytes) = take-number_at 16 16 bytes (omega arith) small in
@@ -25,7 +25,7 @@ account_filter_bytes-account_filter_of bytes size small =
     cc
 
 -- what is read of the bytes is what was written
-pub account_filter_of-account_filter_bytes : (f : AccountFilter) → f.account_id < 256 ^ 16 → f.user_data_128 < 256 ^ 16 → f.user_data_64 < 256 ^ 8 → f.user_data_32 < 256 ^ 4 → f.code < 256 ^ 2 → length f.reserved ≡ 58 → f.timestamp_min < 256 ^ 8 → f.timestamp_max < 256 ^ 8 → f.limit < 256 ^ 4 → f.flags < 256 ^ 4 → account_filter_of (account_filter_bytes f) ≡ f
+pub account_filter_of-account_filter_bytes : (f : AccountFilter) → f.account_id < 256 ^ 16 → f.user_data_128 < 256 ^ 16 → f.user_data_64 < 256 ^ 8 → f.user_data_32 < 256 ^ 4 → f.code < 256 ^ 2 → length f.reserved ≡ 58 → f.timestamp_min < 256 ^ 8 → f.timestamp_max < 256 ^ 8 → f.limit < 256 ^ 4 → f.flags < 256 ^ 4 → account_filter_of_bytes (account_filter_bytes f) ≡ f
 account_filter_of-account_filter_bytes f in_account_id in_user_data_128 in_user_data_64 in_user_data_32 in_code in_reserved in_timestamp_min in_timestamp_max in_limit in_flags =
     let parts : Parts =
     (16, little_endian 16 f.account_id)

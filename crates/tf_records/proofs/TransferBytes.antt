@@ -3,13 +3,13 @@ use Rattle.std.proofs.Common.{◌≡◌, ℕ, ◌^◌, ◌<◌, List, [], ◌∷
 use Rattle.std.proofs.Math.Seq.{take-length}
 use Rattle.std.proofs.lemmas.List.{append-nil}
 use Rattle.tf_records.specs.declared.transfer.Transfer.{Transfer}
-use Rattle.tf_records.specs.Layout.{transfer_bytes, transfer_of}
+use Rattle.tf_records.specs.Layout.{transfer_bytes, transfer_of_bytes}
 use Rattle.tf_records.specs.LittleEndian.{little_endian, number_at, bytes_at}
 use Rattle.tf_records.proofs.Bytes.{length-little_endian, take-number_at}
 use Rattle.tf_records.proofs.Parts.{Parts, AreSized, joined, bytes_at-joined, number_at-bytes}
 
 -- the bytes of what was read are the bytes
-pub transfer_bytes-transfer_of : (bytes : List ℕ) → length bytes ≡ 128 → ((i : ℕ) → slice_index bytes i < 256) → transfer_bytes (transfer_of bytes) ≡ bytes
+pub transfer_bytes-transfer_of : (bytes : List ℕ) → length bytes ≡ 128 → ((i : ℕ) → slice_index bytes i < 256) → transfer_bytes (transfer_of_bytes bytes) ≡ bytes
 transfer_bytes-transfer_of bytes size small =
     let id : take 16 bytes ≡ little_endian 16 (number_at 0 16 bytes) = take-number_at 0 16 bytes (omega arith) small in
     let debit_account_id : take 32 bytes ≡ take 16 bytes ++ little_endian 16 (number_at 16 16 bytes) = take-number_at 16 16 bytes (omega arith) small in
@@ -28,7 +28,7 @@ transfer_bytes-transfer_of bytes size small =
     cc
 
 -- what is read of the bytes is what was written
-pub transfer_of-transfer_bytes : (t : Transfer) → t.id < 256 ^ 16 → t.debit_account_id < 256 ^ 16 → t.credit_account_id < 256 ^ 16 → t.amount < 256 ^ 16 → t.pending_id < 256 ^ 16 → t.user_data_128 < 256 ^ 16 → t.user_data_64 < 256 ^ 8 → t.user_data_32 < 256 ^ 4 → t.timeout < 256 ^ 4 → t.ledger < 256 ^ 4 → t.code < 256 ^ 2 → t.flags < 256 ^ 2 → t.timestamp < 256 ^ 8 → transfer_of (transfer_bytes t) ≡ t
+pub transfer_of-transfer_bytes : (t : Transfer) → t.id < 256 ^ 16 → t.debit_account_id < 256 ^ 16 → t.credit_account_id < 256 ^ 16 → t.amount < 256 ^ 16 → t.pending_id < 256 ^ 16 → t.user_data_128 < 256 ^ 16 → t.user_data_64 < 256 ^ 8 → t.user_data_32 < 256 ^ 4 → t.timeout < 256 ^ 4 → t.ledger < 256 ^ 4 → t.code < 256 ^ 2 → t.flags < 256 ^ 2 → t.timestamp < 256 ^ 8 → transfer_of_bytes (transfer_bytes t) ≡ t
 transfer_of-transfer_bytes t in_id in_debit_account_id in_credit_account_id in_amount in_pending_id in_user_data_128 in_user_data_64 in_user_data_32 in_timeout in_ledger in_code in_flags in_timestamp =
     let parts : Parts =
     (16, little_endian 16 t.id)

@@ -26,8 +26,8 @@ account_bytes a =
     ++ little_endian 8 a.timestamp
 
 -- the account in 128 bytes
-abbrev pub account_of : List ℕ → Account
-account_of bytes = record {
+abbrev pub account_of_bytes : List ℕ → Account
+account_of_bytes bytes = record {
   id = number_at 0 16 bytes;
   debits_pending = number_at 16 16 bytes;
   debits_posted = number_at 32 16 bytes;
@@ -61,8 +61,8 @@ transfer_bytes t =
     ++ little_endian 8 t.timestamp
 
 -- the transfer in 128 bytes
-abbrev pub transfer_of : List ℕ → Transfer
-transfer_of bytes = record {
+abbrev pub transfer_of_bytes : List ℕ → Transfer
+transfer_of_bytes bytes = record {
   id = number_at 0 16 bytes;
   debit_account_id = number_at 16 16 bytes;
   credit_account_id = number_at 32 16 bytes;
@@ -93,8 +93,8 @@ account_filter_bytes f =
     ++ little_endian 4 f.flags
 
 -- the filter on one account in 128 bytes
-abbrev pub account_filter_of : List ℕ → AccountFilter
-account_filter_of bytes = record {
+abbrev pub account_filter_of_bytes : List ℕ → AccountFilter
+account_filter_of_bytes bytes = record {
   account_id = number_at 0 16 bytes;
   user_data_128 = number_at 16 16 bytes;
   user_data_64 = number_at 32 8 bytes;
@@ -122,8 +122,8 @@ query_filter_bytes f =
     ++ little_endian 4 f.flags
 
 -- the filter on all records in 64 bytes
-abbrev pub query_filter_of : List ℕ → QueryFilter
-query_filter_of bytes = record {
+abbrev pub query_filter_of_bytes : List ℕ → QueryFilter
+query_filter_of_bytes bytes = record {
   user_data_128 = number_at 0 16 bytes;
   user_data_64 = number_at 16 8 bytes;
   user_data_32 = number_at 24 4 bytes;
@@ -147,8 +147,8 @@ account_balance_bytes b =
     ++ b.reserved
 
 -- the row of a balance history in 128 bytes
-abbrev pub account_balance_of : List ℕ → AccountBalance
-account_balance_of bytes = record {
+abbrev pub account_balance_of_bytes : List ℕ → AccountBalance
+account_balance_of_bytes bytes = record {
   debits_pending = number_at 0 16 bytes;
   debits_posted = number_at 16 16 bytes;
   credits_pending = number_at 32 16 bytes;

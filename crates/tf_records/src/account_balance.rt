@@ -1,7 +1,7 @@
 //! A row of an account's balance history.
 
 ghost use Rattle.std.specs.Prelude.{◌≡◌, ◌≢◌, IfOk, length};
-ghost use Rattle.tf_records.specs.Layout.{account_balance_bytes, account_balance_of};
+ghost use Rattle.tf_records.specs.Layout.{account_balance_bytes, account_balance_of_bytes};
 
 use crate::Refusal;
 use crate::little_endian::{read_u64, read_u128, write_bytes, write_u64, write_u128};
@@ -33,7 +33,7 @@ impl AccountBalance {
     /// The balance's bytes, by which `from_bytes` gives it back. Takes no memory.
     pub fn to_bytes(&self) -> [u8; Self::SIZE]
         ensures layout { result ≡ account_balance_bytes self.now }
-        ensures read_back { account_balance_of result ≡ self.now }
+        ensures read_back { account_balance_of_bytes result ≡ self.now }
     {
         let mut bytes = [0; Self::SIZE];
         write_u128(&mut bytes, 0, self.debits_pending);
@@ -48,7 +48,7 @@ impl AccountBalance {
     /// The balance in these bytes. Any 128 bytes are one, whatever its reserved bytes; of another
     /// length they are a `BadRecord`. Takes no memory.
     pub fn from_bytes(bytes: &[u8]) -> Result<Self, Refusal>
-        ensures read { length bytes.now ≡ 128 → result ≡ Ok (account_balance_of bytes.now) }
+        ensures read { length bytes.now ≡ 128 → result ≡ Ok (account_balance_of_bytes bytes.now) }
         ensures spelled { IfOk result (λ b. account_balance_bytes b ≡ bytes.now) }
         ensures refused { length bytes.now ≢ 128 → result ≡ Err (Refusal.BadRecord (length bytes.now)) }
     {

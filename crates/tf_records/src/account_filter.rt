@@ -1,7 +1,7 @@
 //! A filter on the transfers and balances of one account.
 
 ghost use Rattle.std.specs.Prelude.{◌≡◌, ◌≢◌, IfOk, length};
-ghost use Rattle.tf_records.specs.Layout.{account_filter_bytes, account_filter_of};
+ghost use Rattle.tf_records.specs.Layout.{account_filter_bytes, account_filter_of_bytes};
 
 use crate::Refusal;
 use crate::little_endian::{
@@ -51,7 +51,7 @@ impl AccountFilter {
     /// The filter's bytes, by which `from_bytes` gives it back. Takes no memory.
     pub fn to_bytes(&self) -> [u8; Self::SIZE]
         ensures layout { result ≡ account_filter_bytes self.now }
-        ensures read_back { account_filter_of result ≡ self.now }
+        ensures read_back { account_filter_of_bytes result ≡ self.now }
     {
         let mut bytes = [0; Self::SIZE];
         write_u128(&mut bytes, 0, self.account_id);
@@ -70,7 +70,7 @@ impl AccountFilter {
     /// The filter in these bytes. Any 128 bytes are one, whatever its flags and reserved bytes; of
     /// another length they are a `BadRecord`. Takes no memory.
     pub fn from_bytes(bytes: &[u8]) -> Result<Self, Refusal>
-        ensures read { length bytes.now ≡ 128 → result ≡ Ok (account_filter_of bytes.now) }
+        ensures read { length bytes.now ≡ 128 → result ≡ Ok (account_filter_of_bytes bytes.now) }
         ensures spelled { IfOk result (λ f. account_filter_bytes f ≡ bytes.now) }
         ensures refused { length bytes.now ≢ 128 → result ≡ Err (Refusal.BadRecord (length bytes.now)) }
     {

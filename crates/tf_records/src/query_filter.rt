@@ -1,7 +1,7 @@
 //! A filter on all accounts or all transfers.
 
 ghost use Rattle.std.specs.Prelude.{◌≡◌, ◌≢◌, IfOk, length};
-ghost use Rattle.tf_records.specs.Layout.{query_filter_bytes, query_filter_of};
+ghost use Rattle.tf_records.specs.Layout.{query_filter_bytes, query_filter_of_bytes};
 
 use crate::Refusal;
 use crate::little_endian::{
@@ -46,7 +46,7 @@ impl QueryFilter {
     /// The filter's bytes, by which `from_bytes` gives it back. Takes no memory.
     pub fn to_bytes(&self) -> [u8; Self::SIZE]
         ensures layout { result ≡ query_filter_bytes self.now }
-        ensures read_back { query_filter_of result ≡ self.now }
+        ensures read_back { query_filter_of_bytes result ≡ self.now }
     {
         let mut bytes = [0; Self::SIZE];
         write_u128(&mut bytes, 0, self.user_data_128);
@@ -65,7 +65,7 @@ impl QueryFilter {
     /// The filter in these bytes. Any 64 bytes are one, whatever its flags and reserved bytes; of
     /// another length they are a `BadRecord`. Takes no memory.
     pub fn from_bytes(bytes: &[u8]) -> Result<Self, Refusal>
-        ensures read { length bytes.now ≡ 64 → result ≡ Ok (query_filter_of bytes.now) }
+        ensures read { length bytes.now ≡ 64 → result ≡ Ok (query_filter_of_bytes bytes.now) }
         ensures spelled { IfOk result (λ f. query_filter_bytes f ≡ bytes.now) }
         ensures refused { length bytes.now ≢ 64 → result ≡ Err (Refusal.BadRecord (length bytes.now)) }
     {

@@ -1,7 +1,7 @@
 //! A transfer.
 
 ghost use Rattle.std.specs.Prelude.{◌≡◌, ◌≢◌, IfOk, length};
-ghost use Rattle.tf_records.specs.Layout.{transfer_bytes, transfer_of};
+ghost use Rattle.tf_records.specs.Layout.{transfer_bytes, transfer_of_bytes};
 
 use crate::Refusal;
 use crate::little_endian::{
@@ -66,7 +66,7 @@ impl Transfer {
     /// The transfer's bytes, by which `from_bytes` gives it back. Takes no memory.
     pub fn to_bytes(&self) -> [u8; Self::SIZE]
         ensures layout { result ≡ transfer_bytes self.now }
-        ensures read_back { transfer_of result ≡ self.now }
+        ensures read_back { transfer_of_bytes result ≡ self.now }
     {
         let mut bytes = [0; Self::SIZE];
         write_u128(&mut bytes, 0, self.id);
@@ -88,7 +88,7 @@ impl Transfer {
     /// The transfer in these bytes. Any 128 bytes are one, whatever its flags and reserved bytes; of
     /// another length they are a `BadRecord`. Takes no memory.
     pub fn from_bytes(bytes: &[u8]) -> Result<Self, Refusal>
-        ensures read { length bytes.now ≡ 128 → result ≡ Ok (transfer_of bytes.now) }
+        ensures read { length bytes.now ≡ 128 → result ≡ Ok (transfer_of_bytes bytes.now) }
         ensures spelled { IfOk result (λ t. transfer_bytes t ≡ bytes.now) }
         ensures refused { length bytes.now ≢ 128 → result ≡ Err (Refusal.BadRecord (length bytes.now)) }
     {

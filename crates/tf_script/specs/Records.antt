@@ -1,6 +1,6 @@
 -- What a script writes of each record: its fields in their order and the record of their values, or its bytes.
 use Rattle.std.specs.Prelude.{ℕ, ◌-◌, ◌^◌, List, [], ◌∷◌, Option, replicate, codes}
-use Rattle.tf_records.specs.Layout.{account_of, transfer_of, account_filter_of, query_filter_of}
+use Rattle.tf_records.specs.Layout.{account_of_bytes, transfer_of_bytes, account_filter_of_bytes, query_filter_of_bytes}
 use Rattle.tf_records.specs.declared.account.Account.{Account}
 use Rattle.tf_records.specs.declared.transfer.Transfer.{Transfer}
 use Rattle.tf_records.specs.declared.account_filter.AccountFilter.{AccountFilter}
@@ -57,7 +57,7 @@ account_from_values values = record {
 
 -- how an account is written
 abbrev pub account_format : Format Account
-account_format = record { fields = account_fields; from_values = account_from_values; size = 128; from_bytes = account_of }
+account_format = record { fields = account_fields; from_values = account_from_values; size = 128; from_bytes = account_of_bytes }
 
 -- the names of a transfer's flags, from bit 0 on
 abbrev pub transfer_flags : List (List ℕ)
@@ -95,7 +95,7 @@ transfer_from_values values = record {
 
 -- how a transfer is written
 abbrev pub transfer_format : Format Transfer
-transfer_format = record { fields = transfer_fields; from_values = transfer_from_values; size = 128; from_bytes = transfer_of }
+transfer_format = record { fields = transfer_fields; from_values = transfer_from_values; size = 128; from_bytes = transfer_of_bytes }
 
 -- the names of the flags of a filter on one account, from bit 0 on
 abbrev pub account_filter_flags : List (List ℕ)
@@ -126,7 +126,7 @@ account_filter_from_values values = record {
 
 -- how a filter on one account is written
 abbrev pub account_filter_format : Format AccountFilter
-account_filter_format = record { fields = account_filter_fields; from_values = account_filter_from_values; size = 128; from_bytes = account_filter_of }
+account_filter_format = record { fields = account_filter_fields; from_values = account_filter_from_values; size = 128; from_bytes = account_filter_of_bytes }
 
 -- the fields of a filter on all records, without its reserved bytes
 abbrev pub query_filter_fields : List Field
@@ -153,4 +153,4 @@ query_filter_from_values values = record {
 
 -- how a filter on all records is written
 abbrev pub query_filter_format : Format QueryFilter
-query_filter_format = record { fields = query_filter_fields; from_values = query_filter_from_values; size = 64; from_bytes = query_filter_of }
+query_filter_format = record { fields = query_filter_fields; from_values = query_filter_from_values; size = 64; from_bytes = query_filter_of_bytes }

@@ -5,4 +5,4 @@ use Rattle.tf_journal.proofs.expiry.first_with.Goals as goal
 pub returns-in_default-3 : goal.returns-in_default-3
 returns-in_default-3 c =
     left_out c.args.entries.now c.args.last c.args.first c.args.entry.now c.in-Transfer.transfer c.args.at c.requires.sound c.requires.last c.requires.present
-    (cc) (sym c.pends.ensures ∙ c.if-pends.true) (sym c.is_over.ensures ∙ c.if-is_over.true) (sym c.is_after.ensures ∙ c.if-is_after.false)
+    (cc) (sym c.is_pending.ensures ∙ c.if-is_pending.true) (sym c.is_overdue.ensures ∙ c.if-is_overdue.true) (sym c.is_after.ensures ∙ c.if-is_after.false)

@@ -2,7 +2,7 @@ use Rattle.std.proofs.Common.{◌≡◌, ◌∙◌, sym, subst, arith, ◌+◌, 
 use Rattle.tf_journal.specs.declared.entry.Entry.TheVariants as entry
 use Rattle.tf_journal.specs.Journal.{last_timestamp}
 use Rattle.tf_journal.specs.Ledger.{CanGrow}
-use Rattle.tf_pending.specs.Pulse.{IsExpiring}
+use Rattle.tf_pending.specs.Parts.{IsExpiring}
 use Rattle.tf_pending.proofs.Pulses.{expiring_done, expiring_grows, expiring_next, expiring_within}
 use Rattle.tf_pending.proofs.expiring.expire_due.Goals as goal
 

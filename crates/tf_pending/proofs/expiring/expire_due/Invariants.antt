@@ -1,5 +1,5 @@
 use Rattle.std.proofs.Common.{◌≡◌}
-use Rattle.tf_pending.specs.Pulse.{IsExpiring}
+use Rattle.tf_pending.specs.Parts.{IsExpiring}
 use Rattle.tf_pending.proofs.expiring.expire_due.Given as goal
 
 -- as many transfers expired as there were turns

@@ -1,6 +1,6 @@
 use Rattle.std.proofs.Common.{◌≡◌, ◌∙◌, sym, ap, true}
 use Rattle.tf_journal.specs.Flags.{is_settling}
-use Rattle.tf_pending.specs.Judgement.{fault_of_id}
+use Rattle.tf_pending.specs.Parts.{fault_of_id}
 use Rattle.tf_pending.proofs.Judging.{used_filled}
 use Rattle.tf_pending.proofs.id.used_id_fault.Goals as goal
 

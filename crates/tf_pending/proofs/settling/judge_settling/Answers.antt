@@ -1,7 +1,8 @@
 use Rattle.std.proofs.Common.{◌∙◌, sym, ap, Ok, Err, subst}
 use Rattle.std.specs.Option.{unwrap_or}
 use Rattle.tf_records.specs.declared.outcome.Outcome.TheVariants as outcome
-use Rattle.tf_pending.specs.Judgement.{IsJudgement, fault_of_id}
+use Rattle.tf_pending.specs.Judgement.{IsJudgement}
+use Rattle.tf_pending.specs.Parts.{fault_of_id}
 use Rattle.tf_pending.proofs.Judging.{IsFaultless, judged_missing, judged_ok, judged_pending, judged_used}
 use Rattle.tf_pending.proofs.settling.judge_settling.Goals as goal
 
@@ -47,7 +48,7 @@ returns g c =
       own_faults = sym c.settling_fault.ensures ∙ c.in_default-settling_fault.is;
     } in
     let journal = g.L.Ledger.journal c.args.ledger.now in
-    subst (λ r. IsJudgement journal c.args.timestamp c.args.event.now (Ok r)) (sym c.settle.ensures)
+    subst (λ r. IsJudgement journal c.args.timestamp c.args.event.now (Ok r)) (sym c.settled.ensures)
     (judged_ok journal c.args.timestamp c.args.event.now c.in-Some-transfer.pending is
     (sym c.transfer.ensures ∙ c.in-Some-transfer.is) (ap (fault_of_id journal) (sym c.fill_in.ensures) ∙ sym c.id_fault-2.ensures ∙ c.in_default-id_fault.is)
     (sym c.pending_fault.ensures ∙ c.in_default-pending_fault.is))

@@ -1,6 +1,6 @@
 use Rattle.tf_events.proofs.Paired.{paired_ledger, paired_limit, paired_sum}
 use Rattle.std.proofs.Common.{sym, ◌∙◌}
-use Rattle.tf_events.proofs.moving.accounts_fault.Goals as goal
+use Rattle.tf_events.proofs.moving.sides_fault.Goals as goal
 
 pub returns-in-Some-ledger_fault : goal.returns-in-Some-ledger_fault
 returns-in-Some-ledger_fault g c =
