@@ -1,5 +1,5 @@
 -- The answer of a command, by how it was answered and what of that was printed.
-use Rattle.std.proofs.Common.{◌≡◌, ◌≢◌, ℕ, List, [], ◌∷◌, ◌++◌, Bool, true, false, Option, Some, None, Result, Ok, Err, OnOk, OnErr, IfOk, IfErr, MatchOption, IfSome, ap, subst, refl, length}
+use Rattle.std.proofs.Common.{◌≡◌, ◌≢◌, ℕ, List, [], ◌∷◌, ◌++◌, Bool, true, false, Option, Some, None, Result, Ok, Err, OnOk, OnErr, IfOk, IfErr, IsOk, MatchOption, IfSome, ap, subst, refl, length}
 use Rattle.std.specs.Prelude.{if◌then◌else◌}
 use Rattle.std.specs.Io.KnownBytes.{Appends}
 use Rattle.tf_records.specs.declared.refusal.Refusal.{Refusal}
@@ -17,7 +17,7 @@ use Rattle.tf_main.specs.declared.fault.RunFault.TheVariants.{NoMemory, BadLine,
 use Rattle.tf_main.specs.Line.{batch_lines, pulse_lines, query_lines, refusal_line}
 use Rattle.tf_main.specs.Output.{AppendsPart}
 use Rattle.tf_main.specs.Run.{IsCommandRun, IsPrinted, IsRefusalPrinted}
-use Rattle.tf_main.specs.Script.{StopsWithin, batch_answer, refusal_of, refused_or_served, served_answer}
+use Rattle.tf_main.specs.Script.{StopsWithin, asks_memory, batch_answer, refusal_of, refused_or_served, served_answer}
 
 -- the refusal that is due, if one is, was answered, and else at most want of memory
 abbrev pub IsRefusedAs : {X : Type 0} → Option Refusal → Result X Refusal → Type 0
@@ -49,22 +49,22 @@ ok_not_err x r is = cc
 -- what a fault says of a command's output
 pub printed_fault : {X Y : Type 0} (journal : List Entry) (clock : ℕ) (command : Command) (due : Option Refusal) (lines : X → List ℕ) (outcome : Result X Refusal)
     (old new : Option (List ℕ)) (result : Result Y RunFault) → IsRefusedAs due outcome → IfSome due (λ (r : Refusal). r ≢ refusal.NoMemory)
-    → IfOk outcome (λ x. lines x ≡ (served_answer journal clock command).output) → IsPrinted lines outcome old new result
-    → IfErr result (StopsWithin due (refused_or_served journal clock command due).output old new)
-printed_fault journal clock command due lines outcome old new (Ok y) refused listed served printed = tt
-printed_fault journal clock command None lines (Ok x) old new (Err NoMemory) refused listed served printed =
+    → IfErr outcome (λ (r : Refusal). asks_memory command ≡ true) → IfOk outcome (λ x. lines x ≡ (served_answer journal clock command).output) → IsPrinted lines outcome old new result
+    → IfErr result (StopsWithin command due (refused_or_served journal clock command due).output old new)
+printed_fault journal clock command due lines outcome old new (Ok y) refused listed asks served printed = tt
+printed_fault journal clock command None lines (Ok x) old new (Err NoMemory) refused listed asks served printed =
     absurd (ok_not_err x refusal.NoMemory printed.fault.1)
-printed_fault journal clock command None lines (Err r) old new (Err NoMemory) refused listed served printed = (printed.fault.0, refl)
-printed_fault journal clock command (Some s) lines (Ok x) old new (Err NoMemory) refused listed served printed = cc
-printed_fault journal clock command (Some s) lines (Err r) old new (Err NoMemory) refused listed served printed =
+printed_fault journal clock command None lines (Err r) old new (Err NoMemory) refused listed asks served printed = (printed.fault.0, refl, asks)
+printed_fault journal clock command (Some s) lines (Ok x) old new (Err NoMemory) refused listed asks served printed = cc
+printed_fault journal clock command (Some s) lines (Err r) old new (Err NoMemory) refused listed asks served printed =
     absurd (listed (let is = printed.fault.1 in cc))
-printed_fault journal clock command due lines outcome old new (Err (BadLine line column)) refused listed served printed = absurd printed.fault
-printed_fault journal clock command None lines (Ok x) old new (Err (CannotWrite error)) refused listed served printed =
+printed_fault journal clock command due lines outcome old new (Err (BadLine line column)) refused listed asks served printed = absurd printed.fault
+printed_fault journal clock command None lines (Ok x) old new (Err (CannotWrite error)) refused listed asks served printed =
     subst (λ (bytes : List ℕ). AppendsPart old new bytes) served printed.fault
-printed_fault journal clock command None lines (Err r) old new (Err (CannotWrite error)) refused listed served printed =
+printed_fault journal clock command None lines (Err r) old new (Err (CannotWrite error)) refused listed asks served printed =
     absurd (no_part old new (subst (λ z. AppendsPart old new (refusal_line z)) refused printed.fault))
-printed_fault journal clock command (Some s) lines (Ok x) old new (Err (CannotWrite error)) refused listed served printed = cc
-printed_fault journal clock command (Some s) lines (Err r) old new (Err (CannotWrite error)) refused listed served printed =
+printed_fault journal clock command (Some s) lines (Ok x) old new (Err (CannotWrite error)) refused listed asks served printed = cc
+printed_fault journal clock command (Some s) lines (Err r) old new (Err (CannotWrite error)) refused listed asks served printed =
     let is : r ≡ s = cc in subst (λ z. AppendsPart old new (refusal_line z)) is printed.fault
 
 -- the journal that a command leaves where the run goes on
@@ -118,12 +118,13 @@ pub command_run : {L X Y : Type 0} (journal_of : L → List Entry) (clock_of : L
     (old_output new_output : Option (List ℕ)) (result : Result Y RunFault)
     → let served = served_answer (journal_of old) (clock_of old) command in
     IsRefusedAs (refusal_of (journal_of old) (clock_of old) command) outcome
+    → IfErr outcome (λ (r : Refusal). asks_memory command ≡ true)
     → IfOk outcome (λ x. lines x ≡ served.output)
     → OnOk outcome (journal_of new ≡ served.journal) → OnOk outcome (clock_of new ≡ served.clock)
     → OnErr outcome (journal_of new ≡ journal_of old) → OnErr outcome (clock_of new ≡ clock_of old)
     → IsLawfulAt (clock_of new) (journal_of new) → IsPrinted lines outcome old_output new_output result
     → IsCommandRun journal_of clock_of old new old_output new_output command result
-command_run journal_of clock_of old new command lines outcome old_output new_output result refused served stored moved same_journal same_clock lawful printed =
+command_run journal_of clock_of old new command lines outcome old_output new_output result refused asks served stored moved same_journal same_clock lawful printed =
     let journal = journal_of old in
     let clock = clock_of old in
     let due = refusal_of journal clock command in
@@ -132,8 +133,23 @@ command_run journal_of clock_of old new command lines outcome old_output new_out
       journal = journal_left journal clock command due lines outcome (journal_of new) old_output new_output result refused stored same_journal printed;
       clock = clock_left journal clock command due lines outcome (clock_of new) old_output new_output result refused moved same_clock printed;
       lawful = lawful;
-      fault = printed_fault journal clock command due lines outcome old_output new_output result refused (refusal_listed journal clock command) served printed;
+      fault = printed_fault journal clock command due lines outcome old_output new_output result refused (refusal_listed journal clock command) asks served printed;
     }
+
+-- what holds anyway
+any_if_err : {X : Type 0} (outcome : Result X Refusal) (P : Type 0) → P → IfErr outcome (λ (r : Refusal). P)
+any_if_err (Ok x) P p = tt
+any_if_err (Err r) P p = p
+
+-- a query whose filter is invalid is never refused, so one that is asks for memory
+pub asks_if_refused : {X : Type 0} (valid : Bool) (outcome : Result X Refusal) → (valid ≡ false → IsOk outcome) → IfErr outcome (λ (r : Refusal). valid ≡ true)
+asks_if_refused true outcome served = any_if_err outcome _ refl
+asks_if_refused false (Ok x) served = tt
+asks_if_refused false (Err r) served = let no = served refl in cc
+
+-- a look-up may ask for memory
+pub look_up_asks : {X : Type 0} (outcome : Result X Refusal) → IfErr outcome (λ (r : Refusal). true ≡ true)
+look_up_asks outcome = any_if_err outcome _ refl
 
 unchanged_journal : {L X : Type 0} (journal_of : L → List Entry) (clock_of kept_of : L → ℕ) (old new : L) (outcome : Result X Refusal)
     → OnErr outcome (IsUnchanged journal_of clock_of kept_of old new) → OnErr outcome (journal_of new ≡ journal_of old)
@@ -172,12 +188,12 @@ pub batch_run : {E L Y : Type 0} (kind : Kind E) (journal_of : L → List Entry)
     (outcome : Result (List Failure) Refusal) (clock : ℕ) (old_output new_output : Option (List ℕ)) (command : Command) (result : Result Y RunFault)
     → refusal_of (journal_of old) (clock_of old) command ≡ batch_refusal (clock_of old) (length events) now
     → served_answer (journal_of old) (clock_of old) command ≡ batch_answer kind (journal_of old) (clock_of old) events now
-    → clock ≡ clock_of new → IsBatchRun kind journal_of clock_of kept_of old new events now outcome
+    → asks_memory command ≡ true → clock ≡ clock_of new → IsBatchRun kind journal_of clock_of kept_of old new events now outcome
     → IsPrinted (λ reply. batch_lines reply clock) outcome old_output new_output result
     → IsCommandRun journal_of clock_of old new old_output new_output command result
-batch_run kind journal_of clock_of kept_of old new events now outcome clock old_output new_output command result due answer at run printed =
+batch_run kind journal_of clock_of kept_of old new events now outcome clock old_output new_output command result due answer asks at run printed =
     command_run journal_of clock_of old new command (λ reply. batch_lines reply clock) outcome old_output new_output result
-    (rw due run.refused)
+    (rw due run.refused) (any_if_err outcome _ asks)
     (rw answer (batch_served outcome _ clock (clock_of new) _ at run.reply run.clock))
     (rw answer run.stored) (rw answer run.clock)
     (unchanged_journal journal_of clock_of kept_of old new outcome run.unchanged) (unchanged_clock journal_of clock_of kept_of old new outcome run.unchanged)
@@ -197,7 +213,7 @@ pub pulse_run : {L Y : Type 0} (journal_of : L → List Entry) (clock_of kept_of
     → IsCommandRun journal_of clock_of old new old_output new_output (pulse now most) result
 pulse_run journal_of clock_of kept_of old new now most outcome clock old_output new_output result at run printed =
     command_run journal_of clock_of old new (pulse now most) (λ count. pulse_lines count clock) outcome old_output new_output result
-    run.refused (pulse_served outcome _ clock (clock_of new) _ at run.count run.clock) run.stored run.clock
+    run.refused (any_if_err outcome _ refl) (pulse_served outcome _ clock (clock_of new) _ at run.count run.clock) run.stored run.clock
     (unchanged_journal journal_of clock_of kept_of old new outcome run.unchanged) (unchanged_clock journal_of clock_of kept_of old new outcome run.unchanged)
     run.lawful printed
 
@@ -219,10 +235,10 @@ pub found_run : {T V L Y : Type 0} (journal_of : L → List Entry) (clock_of : L
     (outcome : Result V Refusal) (old_output new_output : Option (List ℕ)) (result : Result Y RunFault)
     → IsRefusedAs (refusal_of (journal_of ledger) (clock_of ledger) command) outcome
     → served_answer (journal_of ledger) (clock_of ledger) command ≡ record { output = query_lines line answer; journal = journal_of ledger; clock = clock_of ledger }
-    → IfOk outcome (λ rows. items rows ≡ answer) → IsLawfulAt (clock_of ledger) (journal_of ledger)
+    → IfErr outcome (λ (r : Refusal). asks_memory command ≡ true) → IfOk outcome (λ rows. items rows ≡ answer) → IsLawfulAt (clock_of ledger) (journal_of ledger)
     → IsPrinted (λ rows. query_lines line (items rows)) outcome old_output new_output result
     → IsCommandRun journal_of clock_of ledger ledger old_output new_output command result
-found_run journal_of clock_of ledger command line items answer outcome old_output new_output result due is found lawful printed =
+found_run journal_of clock_of ledger command line items answer outcome old_output new_output result due is asks found lawful printed =
     command_run journal_of clock_of ledger ledger command (λ rows. query_lines line (items rows)) outcome old_output new_output result
-    due (rw is (found_served line items answer outcome found)) (any_ok outcome _ (rw is refl)) (any_ok outcome _ (rw is refl))
+    due asks (rw is (found_served line items answer outcome found)) (any_ok outcome _ (rw is refl)) (any_ok outcome _ (rw is refl))
     (any_err outcome _ refl) (any_err outcome _ refl) lawful printed

@@ -40,7 +40,7 @@ AppendsPart-command commands i command within is old mid new before front =
 stops_at : (commands : List Command) (i : ℕ) (command : Command) → i < length commands → command ≡ get_or commands i command → (old mid new : Option (List ℕ))
     → Appends old mid (answer_of_commands (take i commands)).output → (fault : RunFault)
     → let answer = answer_of_commands (take i commands) in
-    StopsWithin (refusal_of answer.journal answer.clock command) (command_answer answer.journal answer.clock command).output mid new fault → StopsRunning commands old new fault
+    StopsWithin command (refusal_of answer.journal answer.clock command) (command_answer answer.journal answer.clock command).output mid new fault → StopsRunning commands old new fault
 stops_at commands i command within is old mid new appends NoMemory stops = record {
   before = take i commands;
   command = command;
@@ -48,6 +48,7 @@ stops_at commands i command within is old mid new appends NoMemory stops = recor
   parts = ap (λ c. take i commands ++ c ∷ drop (suc i) commands) is ∙ ap (λ cs. take i commands ++ cs) (sym (drop-cons commands i command within)) ∙ take-append-drop i commands;
   written = Appends-Keeps old mid new (script_answer (take i commands)) appends stops.0;
   not_refused = stops.1;
+  asks = stops.2;
 }
 stops_at commands i command within is old mid new appends (BadLine line column) stops = stops
 stops_at commands i command within is old mid new appends (CannotWrite error) stops = AppendsPart-command commands i command within is old mid new appends stops
@@ -55,7 +56,7 @@ stops_at commands i command within is old mid new appends (CannotWrite error) st
 -- a run that stops at a command of a list, whose commands are what the views of the list's items show
 pub stops_running : {A : Type 0} (view : A → Command) (items : List A) (i : ℕ) (item : A) → i < length items → item ≡ get_or items i item → (old mid new : Option (List ℕ)) (journal : List Entry) (clock : ℕ)
     → Appends old mid (answer_of_commands (map view (take i items))).output → journal ≡ (answer_of_commands (map view (take i items))).journal → clock ≡ (answer_of_commands (map view (take i items))).clock
-    → (fault : RunFault) → StopsWithin (refusal_of journal clock (view item)) (command_answer journal clock (view item)).output mid new fault → StopsRunning (map view items) old new fault
+    → (fault : RunFault) → StopsWithin (view item) (refusal_of journal clock (view item)) (command_answer journal clock (view item)).output mid new fault → StopsRunning (map view items) old new fault
 stops_running view items i item within is old mid new journal clock appends journal_is clock_is fault stops =
     let commands : List Command = map view items in
     let cut : take i commands ≡ map view (take i items) = take-map view i items in

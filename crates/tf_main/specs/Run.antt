@@ -47,5 +47,5 @@ pub record IsCommandRun {L Y : Type 0} (journal_of : L → List Entry) (clock_of
   pub journal : OnOk result (journal_of new ≡ (command_answer (journal_of old) (clock_of old) command).journal)
   pub clock : OnOk result (clock_of new ≡ (command_answer (journal_of old) (clock_of old) command).clock)
   pub lawful : IsLawfulAt (clock_of new) (journal_of new)
-  pub fault : IfErr result (StopsWithin (refusal_of (journal_of old) (clock_of old) command)
+  pub fault : IfErr result (StopsWithin command (refusal_of (journal_of old) (clock_of old) command)
       (command_answer (journal_of old) (clock_of old) command).output old_output new_output)

@@ -1,10 +1,11 @@
 -- What a script's commands answer, and the ledger that they leave.
-use Rattle.std.specs.Prelude.{◌≡◌, ◌⊎◌, ℕ, List, [], ◌∷◌, ◌++◌, length, fold, Option, Some, None, Ok, Err}
+use Rattle.std.specs.Prelude.{◌≡◌, ◌⊎◌, ℕ, List, [], ◌∷◌, ◌++◌, length, fold, Option, Some, None, Ok, Err, Bool, true, false}
 use Rattle.std.specs.Io.KnownBytes.{Keeps, Appends}
 use Rattle.tf_records.specs.declared.refusal.Refusal.{Refusal}
 use Rattle.tf_journal.specs.declared.entry.Entry.{Entry}
 use Rattle.tf_journal.specs.Answer.{account_transfers_of, found_accounts_of, found_transfers_of, history_of, lookup_refusal, looked_up_accounts, looked_up_transfers}
 use Rattle.tf_journal.specs.Due.{pulse_refusal, pulse_step}
+use Rattle.tf_journal.specs.Filter.{is_valid_account_filter, is_valid_query_filter}
 use Rattle.tf_events.specs.Batch.{batch_clock, batch_refusal, batch_step}
 use Rattle.tf_events.specs.Chain.{Kind}
 use Rattle.tf_events.specs.Chain as kind
@@ -101,8 +102,23 @@ pub record IsAnswered (script : List ℕ) (old new : Option (List ℕ)) : Type 0
   pub reads : script_of script ≡ Ok commands
   pub written : Appends old new (script_answer commands)
 
+-- whether a query asks for memory: not where its filter is invalid
+abbrev pub query_asks_memory : Query → Bool
+query_asks_memory (AccountTransfers filter) = is_valid_account_filter filter
+query_asks_memory (AccountBalances filter) = is_valid_account_filter filter
+query_asks_memory (Accounts filter) = is_valid_query_filter filter
+query_asks_memory (Transfers filter) = is_valid_query_filter filter
+
+-- whether a command that isn't refused asks for memory: a publish and a compaction of a ledger that keeps a flat list
+-- do nothing but print their line
+abbrev pub asks_memory : Command → Bool
+asks_memory publish = false
+asks_memory compact = false
+asks_memory (query asked) = query_asks_memory asked
+asks_memory _ = true
+
 -- memory was refused at a command: the answers of the commands before it were written, each whole, and nothing
--- else; and its answer isn't a refusal
+-- else; and its answer isn't a refusal and asks for memory
 pub record StopsAtCommand (commands : List Command) (old new : Option (List ℕ)) : Type 0 where
   pub before : List Command
   pub command : Command
@@ -110,6 +126,7 @@ pub record StopsAtCommand (commands : List Command) (old new : Option (List ℕ)
   pub parts : before ++ command ∷ after ≡ commands
   pub written : Appends old new (script_answer before)
   pub not_refused : refusal_of (answer_of_commands before).journal (answer_of_commands before).clock command ≡ None
+  pub asks : asks_memory command ≡ true
 
 -- memory was refused while the script was read, when nothing was written, or at a command
 abbrev pub StopsForMemory : List Command → Option (List ℕ) → Option (List ℕ) → Type 0
@@ -136,8 +153,8 @@ FaultTells script old new (BadLine line column) = (script_of script ≡ Err (rec
 FaultTells script old new (CannotWrite error) = StopsReading script old new (λ commands. AppendsPart old new (script_answer commands))
 
 -- what a fault says of the one command that is run, whose answer has this output: at want of memory nothing of it
--- was written, and the answer isn't a refusal
-abbrev pub StopsWithin : Option Refusal → List ℕ → Option (List ℕ) → Option (List ℕ) → RunFault → Type 0
-StopsWithin refusal output old new NoMemory = Keeps old new × (refusal ≡ None)
-StopsWithin refusal output old new (BadLine line column) = ⊥
-StopsWithin refusal output old new (CannotWrite error) = AppendsPart old new output
+-- was written, and the answer isn't a refusal and asks for memory
+abbrev pub StopsWithin : Command → Option Refusal → List ℕ → Option (List ℕ) → Option (List ℕ) → RunFault → Type 0
+StopsWithin command refusal output old new NoMemory = Keeps old new × (refusal ≡ None) × (asks_memory command ≡ true)
+StopsWithin command refusal output old new (BadLine line column) = ⊥
+StopsWithin command refusal output old new (CannotWrite error) = AppendsPart old new output

@@ -35,7 +35,8 @@ use tf_script::{Command, Query, parse};
 /// - `RunFault::CannotWrite` where the writer failed: what was written is a part of the answer, from its
 ///   first byte on.
 /// - `RunFault::NoMemory` where a growth was refused, at a script without a fault: what was written is the
-///   output of the commands before one that isn't refused itself, each whole.
+///   output of the commands before one that isn't refused itself, each whole. It comes while the script is read, or
+///   at a batch, a pulse, a look-up or a query with a valid filter.
 pub fn run_script<A: Allocator + Drop, W: Write>(
     alloc: A,
     script: &[u8],
