@@ -1,12 +1,11 @@
 -- The invariant of a tree after an edit of its rows.
-use Rattle.std.proofs.Common.{◌≡◌, ℕ, ◌+◌, ◌-◌, ◌<◌, length, Option, Some, None, is_some, Bool, true, false, not, cond, refl, sym, ◌∙◌, ap, subst, arith}
+use Rattle.std.proofs.Common.{◌≡◌, ℕ, ◌+◌, ◌-◌, Option, Some, None, is_some, Bool, true, false, not, cond, refl, sym, ◌∙◌, ap, subst, arith}
 use Rattle.std.specs.Cmp.{IsTotalOrder}
 use Rattle.std.specs.declared.boxed.Box.{Box}
 use Rattle.std.specs.declared.cmp.Ordering.{Ordering}
-use Rattle.tf_btree.specs.Shape.{IsFilled}
-use Rattle.tf_btree.specs.Subtree.{Subtree, rows, fill_of}
+use Rattle.tf_btree.specs.Subtree.{Subtree, rows}
 use Rattle.tf_btree.specs.Rows.{value_at, with_row, without_row}
-use Rattle.tf_btree.specs.Tree.{rows_under, HasEntries, IsFilledUnder, IsTree}
+use Rattle.tf_btree.specs.Tree.{rows_under, IsRoot, IsRootIfAny, IsTree}
 use Rattle.tf_btree.proofs.Order.{rising-with_row, rising-without_row, length-with_row, length-without_row}
 
 -- one row more where the key had none
@@ -26,22 +25,20 @@ module _ {K V A : Type 0} (cmp : K → K → Ordering) (total : IsTotalOrder cmp
   pub tree_at : (o : Option (Box (Subtree K V) A)) (root : Box (Subtree K V) A) (n : ℕ) → o ≡ Some root → IsTree cmp o n → IsTree cmp (Some root) n
   tree_at o root n e h = subst (λ (r : Option (Box (Subtree K V) A)). IsTree cmp r n) e h
 
-  pub tree_with : (root new : Box (Subtree K V) A) (n m : ℕ) (k : K) (v : V) → IsTree cmp (Some root) n → rows new.value ≡ with_row cmp k v (rows root.value) → 0 < length new.value.parts → IsFilled true (fill_of new.value)
+  pub tree_with : (root new : Box (Subtree K V) A) (n m : ℕ) (k : K) (v : V) → IsTree cmp (Some root) n → rows new.value ≡ with_row cmp k v (rows root.value) → IsRoot new.value
       → m ≡ n + cond (is_some (value_at cmp k (rows root.value))) 0 1 → IsTree cmp (Some new) m
-  tree_with root new n m k v h all some full count = record {
+  tree_with root new n m k v h all shape count = record {
     rising = rw all (rising-with_row cmp total k v (rows root.value) h.rising);
     counted = rw all (count ∙ ap (λ (l : ℕ). l + cond (is_some (value_at cmp k (rows root.value))) 0 1) h.counted ∙ sym (length-with_row cmp total k v (rows root.value) h.rising));
-    entries = some;
-    filled = full;
+    shape = shape;
   }
 
-  pub tree_without : (old new : Option (Box (Subtree K V) A)) (n m : ℕ) (k : K) → IsTree cmp old n → rows_under new ≡ without_row cmp k (rows_under old) → HasEntries new → IsFilledUnder new
+  pub tree_without : (old new : Option (Box (Subtree K V) A)) (n m : ℕ) (k : K) → IsTree cmp old n → rows_under new ≡ without_row cmp k (rows_under old) → IsRootIfAny new
       → m + cond (is_some (value_at cmp k (rows_under old))) 1 0 ≡ n → IsTree cmp new m
-  tree_without old new n m k h all some full count = record {
+  tree_without old new n m k h all shape count = record {
     rising = rw all (rising-without_row cmp total k (rows_under old) h.rising);
     counted = rw all (let e = length-without_row cmp total k (rows_under old) h.rising in let f = h.counted in omega arith);
-    entries = some;
-    filled = full;
+    shape = shape;
   }
 
   -- a row that was removed was counted

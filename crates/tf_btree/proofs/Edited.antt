@@ -2,15 +2,15 @@
 use Rattle.std.proofs.Common.{◌≡◌, ℕ, zero, suc, ◌+◌, ◌-◌, ◌<◌, ◌≤◌, List, [], ◌∷◌, ◌++◌, length, map, take, drop, set, get_or, Some, Bool, true, false, cond, Result, Ok, Err, OnErr, refl, sym, ◌∙◌, ap, subst, arith, append_assoc}
 use Rattle.std.specs.List.{insert, remove}
 use Rattle.std.specs.declared.cmp.Ordering.{Ordering}
-use Rattle.std.proofs.lemmas.List.{length-append, length-take, length-drop, length-set, set_split, map-set, drop_all, append-nil, get_or_default}
+use Rattle.std.proofs.lemmas.List.{length-take, length-drop, length-set, set_split, map-set, drop_all, append-nil, get_or_default}
 use Rattle.std.proofs.lemmas.List.Edits.{insert_end, length-remove}
 use Rattle.tf_btree.specs.Subtree.{Subtree, joined, rows, fill_of}
-use Rattle.tf_btree.specs.Node.{single_rows, first_key, parts_of, height_of, height_over, AllHigh, subtree_of, IsNode}
+use Rattle.tf_btree.specs.Node.{single_rows, first_key, parts_of, height_of, height_over, IsCounted, AllChildren, subtree_of, IsNode}
 use Rattle.tf_btree.specs.Rows.{with_row, without_row}
 use Rattle.tf_btree.specs.Place.{IsAt, IsGap, IsBelow}
 use Rattle.tf_btree.specs.Inserted.{IsSplitOf}
 use Rattle.tf_btree.proofs.Entries.{leaf_node, leaf_same, branch_node, length-children, same_subtree}
-use Rattle.tf_btree.proofs.Runs.{AllHigh-append, AllHigh-take, AllHigh-drop, height_over-high}
+use Rattle.tf_btree.proofs.Runs.{length_insert_pos, AllChildren-append, AllChildren-take, AllChildren-drop, height_over-high}
 use Rattle.tf_btree.proofs.Order.{with_row-gap, with_row-at, with_row-among, without_row-gap, without_row-at, without_row-among}
 use Rattle.tf_btree.proofs.Parts.{joined-append, joined-take-drop, joined_split, joined-set, joined-insert, joined-remove, joined-insert_left, joined-insert_right}
 
@@ -64,9 +64,6 @@ module _ {K V : Type 0} (cmp : K → K → Ordering) (k : K) (ps : List (List (K
   without_row_below h =
       ap (λ (r : List (K × V)). without_row cmp k r) (joined_split ps i [] h.in_range) ∙ without_row-among cmp k (joined (take i ps)) (get_or ps i []) (joined (drop (suc i) ps)) h.among
 
-length_insert_pos : {X : Type 0} (xs : List X) (i : ℕ) (x : X) → 0 < length (insert xs i x)
-length_insert_pos xs i x = omega (arith, length-append (take i xs) (x ∷ drop i xs))
-
 -- an entry put into the first part of a split, or into the second
 pub split_left : {K V : Type 0} (old new right : Subtree K V) (m at : ℕ) (p : List (K × V)) → new.is_branch ≡ old.is_branch → new.height ≡ old.height → right.height ≡ old.height
     → new.parts ≡ insert (take m old.parts) at p → right.parts ≡ drop m old.parts → at ≤ m → m < length old.parts → IsSplitOf old new right (joined (insert old.parts at p))
@@ -86,26 +83,26 @@ split_right old new right m at p kind height right_height left back le some with
 
 -- a branch with another child at a place
 pub branch_set_node : {K V : Type 0} (b : Bool) (ks : List K) (vs : List V) (cs : List (Subtree K V)) (i : ℕ) (k : K) (c : Subtree K V) → b ≡ true → IsNode b ks vs cs → i < length ks
-    → first_key (rows c) ≡ Some k → height_of b cs ≡ suc c.height → IsNode b (set ks i k) vs (set cs i c)
-branch_set_node false ks vs cs i k c e n lt first level = absurd (cc)
-branch_set_node {K} {V} true ks vs cs i k c e n lt first level =
+    → first_key (rows c) ≡ Some k → height_of b cs ≡ suc c.height → IsCounted c → IsNode b (set ks i k) vs (set cs i c)
+branch_set_node false ks vs cs i k c e n lt first level counted = absurd (cc)
+branch_set_node {K} {V} true ks vs cs i k c e n lt first level counted =
     let long = length-children true ks vs cs refl n in
     let at = set_split cs i c (omega arith) in
-    let high : AllHigh (height_over cs) (take i cs ++ c ∷ drop (suc i) cs) = AllHigh-append (height_over cs) (take i cs) (c ∷ drop (suc i) cs) (AllHigh-take (height_over cs) i cs n.kind.1) (sym level, AllHigh-drop (height_over cs) (suc i) cs n.kind.1) in
+    let high : AllChildren (height_over cs) (take i cs ++ c ∷ drop (suc i) cs) = AllChildren-append (height_over cs) (take i cs) (c ∷ drop (suc i) cs) (AllChildren-take (height_over cs) i cs n.kind.1) (record { level = sym level; counted = counted }, AllChildren-drop (height_over cs) (suc i) cs n.kind.1) in
     let a = map-set Some ks i k in
     let r = map-set rows cs i c in
     let f = map-set first_key (map rows cs) i (rows c) in
     let same = n.first_keys in
-    branch_node true (set ks i k) vs (set cs i c) (height_over cs) refl n.kind.0 (subst (λ (ds : List (Subtree K V)). AllHigh (height_over cs) ds) (sym at) high) (cc)
+    branch_node true (set ks i k) vs (set cs i c) (height_over cs) refl n.kind.0 (subst (λ (ds : List (Subtree K V)). AllChildren (height_over cs) ds) (sym at) high) (cc)
 
 pub branch_set_view : {K V : Type 0} (b : Bool) (ks ks' : List K) (vs : List V) (cs : List (Subtree K V)) (i : ℕ) (c : Subtree K V) → b ≡ true → IsNode b ks vs cs → i < length ks
-    → height_of b cs ≡ suc c.height → subtree_of b ks' vs (set cs i c) ≡ record { is_branch = b; height = height_of b cs; parts = set (parts_of b ks vs cs) i (rows c); fills = set (map fill_of cs) i (fill_of c) }
-branch_set_view false ks ks' vs cs i c e n lt level = absurd (cc)
-branch_set_view {K} {V} true ks ks' vs cs i c e n lt level =
+    → height_of b cs ≡ suc c.height → IsCounted c → subtree_of b ks' vs (set cs i c) ≡ record { is_branch = b; height = height_of b cs; parts = set (parts_of b ks vs cs) i (rows c); fills = set (map fill_of cs) i (fill_of c) }
+branch_set_view false ks ks' vs cs i c e n lt level counted = absurd (cc)
+branch_set_view {K} {V} true ks ks' vs cs i c e n lt level counted =
     let long = length-children true ks vs cs refl n in
     let at = set_split cs i c (omega arith) in
-    let high : AllHigh (height_over cs) (take i cs ++ c ∷ drop (suc i) cs) = AllHigh-append (height_over cs) (take i cs) (c ∷ drop (suc i) cs) (AllHigh-take (height_over cs) i cs n.kind.1) (sym level, AllHigh-drop (height_over cs) (suc i) cs n.kind.1) in
-    let high' : AllHigh (height_over cs) (set cs i c) = subst (λ (ds : List (Subtree K V)). AllHigh (height_over cs) ds) (sym at) high in
+    let high : AllChildren (height_over cs) (take i cs ++ c ∷ drop (suc i) cs) = AllChildren-append (height_over cs) (take i cs) (c ∷ drop (suc i) cs) (AllChildren-take (height_over cs) i cs n.kind.1) (record { level = sym level; counted = counted }, AllChildren-drop (height_over cs) (suc i) cs n.kind.1) in
+    let high' : AllChildren (height_over cs) (set cs i c) = subst (λ (ds : List (Subtree K V)). AllChildren (height_over cs) ds) (sym at) high in
     same_subtree true true _ _ _ _ _ _ refl (height_over-high (height_over cs) (set cs i c) high' (omega (arith, length-set cs i c))) (map-set rows cs i c) (map-set fill_of cs i c)
 
 -- a part with another behind it

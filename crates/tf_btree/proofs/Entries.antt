@@ -5,8 +5,8 @@ use Rattle.std.specs.declared.boxed.Box.{Box}
 use Rattle.std.proofs.lemmas.List.{append-nil, map-append, take-map, drop-map, length-drop, length-map, length-append, get_or-map}
 use Rattle.tf_btree.specs.Shape.{Fill}
 use Rattle.tf_btree.specs.Subtree.{Subtree, joined, rows, fill_of}
-use Rattle.tf_btree.specs.Node.{first_key, single_rows, AllHigh, height_over, height_of, parts_of, subtree_of, IsNode, HasRoom, unbox, unboxed}
-use Rattle.tf_btree.proofs.Runs.{single_rows-append, take-single_rows, drop-single_rows, single_rows-first, same_take, same_drop, insert-single_rows, remove-single_rows, map-insert, map-remove, AllHigh-append, AllHigh-take, AllHigh-drop, height_over-high, AllHigh-own}
+use Rattle.tf_btree.specs.Node.{first_key, empty_node, single_rows, IsCounted, IsChild, AllChildren, height_over, height_of, parts_of, subtree_of, IsNode, HasRoom, unbox, unboxed}
+use Rattle.tf_btree.proofs.Runs.{length_insert_pos, single_rows-append, take-single_rows, drop-single_rows, single_rows-first, same_take, same_drop, insert-single_rows, remove-single_rows, map-insert, map-remove, AllChildren-append, AllChildren-take, AllChildren-drop, height_over-high, AllChildren-own}
 
 pub same_kind : {K V : Type 0} {s t : Subtree K V} → s ≡ t → s.is_branch ≡ t.is_branch
 same_kind {K} {V} e = ap (λ (s : Subtree K V). s.is_branch) e
@@ -19,6 +19,10 @@ same_parts {K} {V} e = ap (λ (s : Subtree K V). s.parts) e
 
 pub same_fills : {K V : Type 0} {s t : Subtree K V} → s ≡ t → s.fills ≡ t.fills
 same_fills {K} {V} e = ap (λ (s : Subtree K V). s.fills) e
+
+pub empty_kind : {K V : Type 0} (b : Bool) (s : Subtree K V) → s ≡ empty_node b → s.is_branch ≡ b
+empty_kind true s e = same_kind e
+empty_kind false s e = same_kind e
 
 -- equal fields make equal subtrees
 pub same_subtree : {K V : Type 0} (b b' : Bool) (h h' : ℕ) (p p' : List (List (K × V))) (f f' : List Fill) → b ≡ b' → h ≡ h' → p ≡ p' → f ≡ f' → (let s : Subtree K V = record { is_branch = b; height = h; parts = p; fills = f } in s) ≡ record { is_branch = b'; height = h'; parts = p'; fills = f' }
@@ -52,13 +56,13 @@ pub leaf_same : {K V : Type 0} (b : Bool) (ks : List K) (vs : List V) (cs : List
 leaf_same true ks vs cs e n = absurd (cc)
 leaf_same false ks vs cs e n = n.kind
 
-pub branch_same : {K V : Type 0} (b : Bool) (ks : List K) (vs : List V) (cs : List (Subtree K V)) → b ≡ true → IsNode b ks vs cs → (vs ≡ []) × (AllHigh (height_over cs) cs × (map Some ks ≡ map first_key (map rows cs)))
+pub branch_same : {K V : Type 0} (b : Bool) (ks : List K) (vs : List V) (cs : List (Subtree K V)) → b ≡ true → IsNode b ks vs cs → (vs ≡ []) × (AllChildren (height_over cs) cs × (map Some ks ≡ map first_key (map rows cs)))
 branch_same false ks vs cs e n = absurd (cc)
 branch_same true ks vs cs e n = (n.kind.0, (n.kind.1, n.first_keys))
 
-pub branch_node : {K V : Type 0} (b : Bool) (ks : List K) (vs : List V) (cs : List (Subtree K V)) (h : ℕ) → b ≡ true → vs ≡ [] → AllHigh h cs → map Some ks ≡ map first_key (map rows cs) → IsNode b ks vs cs
+pub branch_node : {K V : Type 0} (b : Bool) (ks : List K) (vs : List V) (cs : List (Subtree K V)) (h : ℕ) → b ≡ true → vs ≡ [] → AllChildren h cs → map Some ks ≡ map first_key (map rows cs) → IsNode b ks vs cs
 branch_node false ks vs cs h e none high firsts = absurd (cc)
-branch_node true ks vs cs h e none high firsts = record { kind = (none, AllHigh-own h cs high); first_keys = firsts }
+branch_node true ks vs cs h e none high firsts = record { kind = (none, AllChildren-own h cs high); first_keys = firsts }
 
 pub leaf_view : {K V : Type 0} (b : Bool) (ks : List K) (vs : List V) (cs : List (Subtree K V)) (p : List (List (K × V))) → b ≡ false → single_rows ks vs ≡ p → subtree_of b ks vs cs ≡ record { is_branch = false; height = 0; parts = p; fills = map fill_of cs }
 leaf_view true ks vs cs p e same = absurd (cc)
@@ -72,43 +76,40 @@ pub unboxed-insert : {X Z : Type 0} (bs : List (Box X Z)) (i : ℕ) (b : Box X Z
 unboxed-insert bs i b = map-insert unbox bs i b
 
 -- a list of subtrees with one more among them
-pub AllHigh-insert : {K V : Type 0} (h : ℕ) (cs : List (Subtree K V)) (i : ℕ) (c : Subtree K V) → AllHigh h cs → suc c.height ≡ h → AllHigh h (insert cs i c)
-AllHigh-insert h cs i c a e = AllHigh-append h (take i cs) (c ∷ drop i cs) (AllHigh-take h i cs a) (e, AllHigh-drop h i cs a)
+pub AllChildren-insert : {K V : Type 0} (h : ℕ) (cs : List (Subtree K V)) (i : ℕ) (c : Subtree K V) → AllChildren h cs → IsChild h c → AllChildren h (insert cs i c)
+AllChildren-insert h cs i c a e = AllChildren-append h (take i cs) (c ∷ drop i cs) (AllChildren-take h i cs a) (e, AllChildren-drop h i cs a)
 
-pub AllHigh-remove : {K V : Type 0} (h : ℕ) (cs : List (Subtree K V)) (i : ℕ) → AllHigh h cs → AllHigh h (remove cs i)
-AllHigh-remove h cs i a = AllHigh-append h (take i cs) (drop (suc i) cs) (AllHigh-take h i cs a) (AllHigh-drop h (suc i) cs a)
+pub AllChildren-remove : {K V : Type 0} (h : ℕ) (cs : List (Subtree K V)) (i : ℕ) → AllChildren h cs → AllChildren h (remove cs i)
+AllChildren-remove h cs i a = AllChildren-append h (take i cs) (drop (suc i) cs) (AllChildren-take h i cs a) (AllChildren-drop h (suc i) cs a)
 
-pub AllHigh-get_or : {K V : Type 0} (h : ℕ) (cs : List (Subtree K V)) (i : ℕ) (d : Subtree K V) → AllHigh h cs → i < length cs → suc (get_or cs i d).height ≡ h
-AllHigh-get_or h [] i d a lt = absurd (omega arith)
-AllHigh-get_or h (c ∷ cs) zero d a lt = a.0
-AllHigh-get_or h (c ∷ cs) (suc i) d a lt = AllHigh-get_or h cs i d a.1 (omega arith)
+pub AllChildren-get_or : {K V : Type 0} (h : ℕ) (cs : List (Subtree K V)) (i : ℕ) (d : Subtree K V) → AllChildren h cs → i < length cs → suc (get_or cs i d).height ≡ h
+AllChildren-get_or h [] i d a lt = absurd (omega arith)
+AllChildren-get_or h (c ∷ cs) zero d a lt = a.0.level
+AllChildren-get_or h (c ∷ cs) (suc i) d a lt = AllChildren-get_or h cs i d a.1 (omega arith)
 
 -- what is high as a new child asks, where there are others
-pub high_as : {K V : Type 0} (cs : List (Subtree K V)) (h : ℕ) → AllHigh (height_over cs) cs → (0 < length cs → height_over cs ≡ h) → AllHigh h cs
+pub high_as : {K V : Type 0} (cs : List (Subtree K V)) (h : ℕ) → AllChildren (height_over cs) cs → (0 < length cs → height_over cs ≡ h) → AllChildren h cs
 high_as [] h a e = tt
-high_as (c ∷ cs) h a e = subst (λ (m : ℕ). AllHigh m (c ∷ cs)) (e (omega arith)) a
-
-length_insert_pos : {X : Type 0} (xs : List X) (i : ℕ) (x : X) → 0 < length (insert xs i x)
-length_insert_pos xs i x = omega (arith, length-append (take i xs) (x ∷ drop i xs))
+high_as (c ∷ cs) h a e = subst (λ (m : ℕ). AllChildren m (c ∷ cs)) (e (omega arith)) a
 
 -- a branch with one more child
 pub branch_insert_node : {K V : Type 0} (b : Bool) (ks : List K) (vs : List V) (cs : List (Subtree K V)) (i : ℕ) (k : K) (c : Subtree K V) → b ≡ true → IsNode b ks vs cs
-    → (0 < length (parts_of b ks vs cs) → height_of b cs ≡ suc c.height) → first_key (rows c) ≡ Some k → IsNode b (insert ks i k) vs (insert cs i c)
-branch_insert_node false ks vs cs i k c e n level first = absurd (cc)
-branch_insert_node true ks vs cs i k c e n level first =
+    → (0 < length (parts_of b ks vs cs) → height_of b cs ≡ suc c.height) → first_key (rows c) ≡ Some k → IsCounted c → IsNode b (insert ks i k) vs (insert cs i c)
+branch_insert_node false ks vs cs i k c e n level first counted = absurd (cc)
+branch_insert_node true ks vs cs i k c e n level first counted =
     let high = high_as cs (suc c.height) n.kind.1 (λ (some : 0 < length cs). level (omega (arith, length-map cs rows))) in
     let a = map-insert Some ks i k in
     let r = map-insert rows cs i c in
     let f = map-insert first_key (map rows cs) i (rows c) in
     let same = n.first_keys in
-    branch_node true (insert ks i k) vs (insert cs i c) (suc c.height) refl n.kind.0 (AllHigh-insert (suc c.height) cs i c high refl) (cc)
+    branch_node true (insert ks i k) vs (insert cs i c) (suc c.height) refl n.kind.0 (AllChildren-insert (suc c.height) cs i c high (record { level = refl; counted = counted })) (cc)
 
 pub branch_insert_view : {K V : Type 0} (b : Bool) (ks ks' : List K) (vs : List V) (cs : List (Subtree K V)) (i : ℕ) (c : Subtree K V) → b ≡ true → IsNode b ks vs cs
-    → (0 < length (parts_of b ks vs cs) → height_of b cs ≡ suc c.height) → subtree_of b ks' vs (insert cs i c) ≡ record { is_branch = true; height = suc c.height; parts = insert (parts_of b ks vs cs) i (rows c); fills = insert (map fill_of cs) i (fill_of c) }
-branch_insert_view false ks ks' vs cs i c e n level = absurd (cc)
-branch_insert_view true ks ks' vs cs i c e n level =
+    → (0 < length (parts_of b ks vs cs) → height_of b cs ≡ suc c.height) → IsCounted c → subtree_of b ks' vs (insert cs i c) ≡ record { is_branch = true; height = suc c.height; parts = insert (parts_of b ks vs cs) i (rows c); fills = insert (map fill_of cs) i (fill_of c) }
+branch_insert_view false ks ks' vs cs i c e n level counted = absurd (cc)
+branch_insert_view true ks ks' vs cs i c e n level counted =
     let high = high_as cs (suc c.height) n.kind.1 (λ (some : 0 < length cs). level (omega (arith, length-map cs rows))) in
-    branch_view true ks' vs (insert cs i c) (suc c.height) _ _ refl (height_over-high _ _ (AllHigh-insert (suc c.height) cs i c high refl) (length_insert_pos cs i c)) (map-insert rows cs i c) (map-insert fill_of cs i c)
+    branch_view true ks' vs (insert cs i c) (suc c.height) _ _ refl (height_over-high _ _ (AllChildren-insert (suc c.height) cs i c high (record { level = refl; counted = counted })) (length_insert_pos cs i c)) (map-insert rows cs i c) (map-insert fill_of cs i c)
 
 -- a leaf with one more row
 pub leaf_insert_node : {K V : Type 0} (b : Bool) (ks : List K) (vs : List V) (cs : List (Subtree K V)) (i : ℕ) (k : K) (v : V) → b ≡ false → IsNode b ks vs cs → IsNode b (insert ks i k) (insert vs i v) cs
@@ -156,18 +157,18 @@ branch_remove_node true ks vs cs i e n =
     let r = map-remove rows cs i in
     let f = map-remove first_key (map rows cs) i in
     let same = n.first_keys in
-    branch_node true (remove ks i) vs (remove cs i) (height_over cs) refl n.kind.0 (AllHigh-remove (height_over cs) cs i n.kind.1) (cc)
+    branch_node true (remove ks i) vs (remove cs i) (height_over cs) refl n.kind.0 (AllChildren-remove (height_over cs) cs i n.kind.1) (cc)
 
 pub branch_remove_parts : {K V : Type 0} (b : Bool) (ks ks' : List K) (vs : List V) (cs : List (Subtree K V)) (i : ℕ) → b ≡ true → parts_of b ks' vs (remove cs i) ≡ remove (parts_of b ks vs cs) i
 branch_remove_parts false ks ks' vs cs i e = absurd (cc)
 branch_remove_parts true ks ks' vs cs i e = map-remove rows cs i
 
 -- what is left of a branch is as high, unless nothing is
-pub branch_height : {K V : Type 0} (b : Bool) (ks : List K) (vs : List V) (cs ds : List (Subtree K V)) → b ≡ true → IsNode b ks vs cs → AllHigh (height_over cs) ds → 0 < length (parts_of b ks vs ds) → height_of b ds ≡ height_of b cs
+pub branch_height : {K V : Type 0} (b : Bool) (ks : List K) (vs : List V) (cs ds : List (Subtree K V)) → b ≡ true → IsNode b ks vs cs → AllChildren (height_over cs) ds → 0 < length (parts_of b ks vs ds) → height_of b ds ≡ height_of b cs
 branch_height false ks vs cs ds e n high some = absurd (cc)
 branch_height true ks vs cs ds e n high some = height_over-high (height_over cs) ds high (omega (arith, length-map ds rows))
 
-pub branch_high : {K V : Type 0} (b : Bool) (ks : List K) (vs : List V) (cs : List (Subtree K V)) → b ≡ true → IsNode b ks vs cs → AllHigh (height_over cs) cs
+pub branch_high : {K V : Type 0} (b : Bool) (ks : List K) (vs : List V) (cs : List (Subtree K V)) → b ≡ true → IsNode b ks vs cs → AllChildren (height_over cs) cs
 branch_high b ks vs cs e n = (branch_same b ks vs cs e n).1.0
 
 pub length-children : {K V : Type 0} (b : Bool) (ks : List K) (vs : List V) (cs : List (Subtree K V)) → b ≡ true → IsNode b ks vs cs → length cs ≡ length ks
@@ -182,7 +183,7 @@ child_height false ks vs bs i x e n lt is = absurd (cc)
 child_height {K} {V} {A} true ks vs bs i x e n lt is =
     let long : length (unboxed bs) ≡ length ks = length-children true ks vs (unboxed bs) refl n in
     let same : get_or (unboxed bs) i x.value ≡ x.value = get_or-map unbox bs i x x.value (omega (arith, length-map bs (unbox {X = Subtree K V} {Z = A}))) ∙ ap unbox (sym is) in
-    sym (AllHigh-get_or _ (unboxed bs) i x.value n.kind.1 (omega arith)) ∙ ap (λ (s : Subtree K V). suc s.height) same
+    sym (AllChildren-get_or _ (unboxed bs) i x.value n.kind.1 (omega arith)) ∙ ap (λ (s : Subtree K V). suc s.height) same
 
 -- an entry of a branch has the rows of its child
 pub child_entry : {K V A : Type 0} (b : Bool) (ks : List K) (vs : List V) (bs : List (Box (Subtree K V) A)) (i : ℕ) (x : Box (Subtree K V) A) → b ≡ true → IsNode b ks vs (unboxed bs) → i < length ks
@@ -212,7 +213,7 @@ length-fills b ks vs cs s n is e =
     let long = length-seen b ks vs cs s n is in
     ap length (sym (same_fills is)) ∙ length-map cs fill_of ∙ length-children b ks vs cs (same_kind is ∙ e) n ∙ sym long
 
-get_or-first : {K V : Type 0} (ks : List K) (ps : List (List (K × V))) (i : ℕ) (k : K) (d : List (K × V)) → map Some ks ≡ map first_key ps → i < length ks → Some (get_or ks i k) ≡ first_key (get_or ps i d)
+pub get_or-first : {K V : Type 0} (ks : List K) (ps : List (List (K × V))) (i : ℕ) (k : K) (d : List (K × V)) → map Some ks ≡ map first_key ps → i < length ks → Some (get_or ks i k) ≡ first_key (get_or ps i d)
 get_or-first [] ps i k d e lt = absurd (omega arith)
 get_or-first (x ∷ ks) [] i k d e lt = absurd (cc)
 get_or-first (x ∷ ks) (p ∷ ps) zero k d e lt = cc
@@ -250,7 +251,7 @@ branch_take_node n true ks vs cs e m =
     let r = take-map rows n cs in
     let f = take-map first_key n (map rows cs) in
     let same = m.first_keys in
-    branch_node true (take n ks) vs (take n cs) (height_over cs) refl m.kind.0 (AllHigh-take (height_over cs) n cs m.kind.1) (cc)
+    branch_node true (take n ks) vs (take n cs) (height_over cs) refl m.kind.0 (AllChildren-take (height_over cs) n cs m.kind.1) (cc)
 
 pub branch_drop_node : {K V : Type 0} (n : ℕ) (b b' : Bool) (ks : List K) (vs vs' : List V) (cs : List (Subtree K V)) → b ≡ true → IsNode b ks vs cs → b' ≡ true → vs' ≡ [] → IsNode b' (drop n ks) vs' (drop n cs)
 branch_drop_node n false b' ks vs vs' cs e m e' none = absurd (cc)
@@ -259,7 +260,7 @@ branch_drop_node n true b' ks vs vs' cs e m e' none =
     let r = drop-map rows n cs in
     let f = drop-map first_key n (map rows cs) in
     let same = m.first_keys in
-    branch_node b' (drop n ks) vs' (drop n cs) (height_over cs) e' none (AllHigh-drop (height_over cs) n cs m.kind.1) (cc)
+    branch_node b' (drop n ks) vs' (drop n cs) (height_over cs) e' none (AllChildren-drop (height_over cs) n cs m.kind.1) (cc)
 
 pub branch_take_parts : {K V : Type 0} (n : ℕ) (b : Bool) (ks ks' : List K) (vs : List V) (cs : List (Subtree K V)) → b ≡ true → parts_of b ks' vs (take n cs) ≡ take n (parts_of b ks vs cs)
 branch_take_parts n false ks ks' vs cs e = absurd (cc)
@@ -273,10 +274,10 @@ branch_drop_parts n true true ks ks' vs vs' cs e e' = sym (drop-map rows n cs)
 pub branch_drop_height : {K V : Type 0} (n : ℕ) (b b' : Bool) (ks : List K) (vs : List V) (cs : List (Subtree K V)) → b ≡ true → IsNode b ks vs cs → b' ≡ true → n < length (parts_of b ks vs cs) → height_of b' (drop n cs) ≡ height_of b cs
 branch_drop_height n false b' ks vs cs e m e' lt = absurd (cc)
 branch_drop_height n true false ks vs cs e m e' lt = absurd (cc)
-branch_drop_height n true true ks vs cs e m e' lt = height_over-high (height_over cs) (drop n cs) (AllHigh-drop (height_over cs) n cs m.kind.1) (omega (arith, length-drop n cs, length-map cs rows))
+branch_drop_height n true true ks vs cs e m e' lt = height_over-high (height_over cs) (drop n cs) (AllChildren-drop (height_over cs) n cs m.kind.1) (omega (arith, length-drop n cs, length-map cs rows))
 
-pub AllHigh-at : {K V : Type 0} (h m : ℕ) (cs : List (Subtree K V)) → m ≡ h → AllHigh m cs → AllHigh h cs
-AllHigh-at h m cs e a = subst (λ (n : ℕ). AllHigh n cs) e a
+pub AllChildren-at : {K V : Type 0} (h m : ℕ) (cs : List (Subtree K V)) → m ≡ h → AllChildren m cs → AllChildren h cs
+AllChildren-at h m cs e a = subst (λ (n : ℕ). AllChildren n cs) e a
 
 -- two leaves, or two branches, as one
 pub leaf_append_node : {K V : Type 0} (b b' : Bool) (ks ls : List K) (vs ws : List V) (cs ds : List (Subtree K V)) → b ≡ false → IsNode b ks vs cs → b' ≡ false → IsNode b' ls ws ds → IsNode b (ks ++ ls) (vs ++ ws) cs
@@ -300,7 +301,7 @@ branch_append_node true true ks ls vs ws cs ds e m e' m' h =
     let f = map-append first_key (map rows cs) (map rows ds) in
     let same = m.first_keys in
     let same' = m'.first_keys in
-    branch_node true (ks ++ ls) vs (cs ++ ds) (height_over cs) refl m.kind.0 (AllHigh-append (height_over cs) cs ds m.kind.1 (AllHigh-at _ _ ds (sym h) m'.kind.1)) (cc)
+    branch_node true (ks ++ ls) vs (cs ++ ds) (height_over cs) refl m.kind.0 (AllChildren-append (height_over cs) cs ds m.kind.1 (AllChildren-at _ _ ds (sym h) m'.kind.1)) (cc)
 
 -- a child has entries
 pub child_some : {K V A : Type 0} (b : Bool) (ks : List K) (vs : List V) (bs : List (Box (Subtree K V) A)) (i : ℕ) (x : Box (Subtree K V) A) → b ≡ true → IsNode b ks vs (unboxed bs) → i < length ks → x ≡ get_or bs i x → 0 < length x.value.parts

@@ -4,7 +4,8 @@ use Rattle.std.specs.List.{insert, remove}
 use Rattle.std.proofs.lemmas.Bool.Decides.{eqb_tells}
 use Rattle.std.proofs.lemmas.List.{take-append-drop, length-append, length-drop, drop_all, get_or_default}
 use Rattle.std.proofs.lemmas.List.Edits.{insert_end, length-remove, get_or-remove_below}
-use Rattle.tf_btree.specs.Shape.{Shape, childless, child, Fill, shape_of, edge_before, AreFilled, AllFilled, IsFilled, one_more, one_more_at}
+use Rattle.tf_btree.proofs.Runs.{length_insert_pos}
+use Rattle.tf_btree.specs.Shape.{Shape, childless, child, Fill, shape_of, edge_before, edge_at, AreFilled, AllFilled, IsFilled, one_more, one_more_at}
 use Rattle.tf_btree.specs.Subtree.{Subtree, fill_of}
 
 -- on the right edge less is asked
@@ -53,10 +54,6 @@ filled_split edge [] gs some h = (tt, h)
 filled_split edge (f ∷ []) [] some h = absurd (omega arith)
 filled_split edge (f ∷ []) (g ∷ gs) some h = (filled_put false f [] (filled_before edge f (g ∷ gs) h some) tt, h.2)
 filled_split edge (f ∷ x ∷ fs) gs some h = let rest = filled_split edge (x ∷ fs) gs some h.2 in (filled_put false f (x ∷ fs) (record { half = h.0; below = h.1 }) rest.0, rest.1)
-
--- whether the child at i is on the right edge
-abbrev pub edge_at : Bool → List Fill → ℕ → Bool
-edge_at edge fs i = edge_before (shape_of (drop (suc i) fs)) edge
 
 edge_before-off : (s : Shape) → edge_before s false ≡ false
 edge_before-off childless = refl
@@ -212,9 +209,6 @@ insert_right xs zero i x le within = let e : i - 0 ≡ i = omega arith in rw e r
 insert_right [] (suc m) i x le within = absurd (omega arith)
 insert_right (y ∷ xs) (suc m) zero x le within = absurd (omega arith)
 insert_right (y ∷ xs) (suc m) (suc i) x le within = let e : suc i - suc m ≡ i - m = omega arith in rw e (ap (λ ys. y ∷ ys) (insert_right xs m i x (omega arith) (omega arith)))
-
-length_insert_pos : {X : Type 0} (xs : List X) (i : ℕ) (x : X) → 0 < length (insert xs i x)
-length_insert_pos xs i x = omega (arith, length-append (take i xs) (x ∷ drop i xs))
 
 -- so both parts are filled where the whole was, the first one off the edge
 pub filled_left : (edge : Bool) (fs : List Fill) (m i : ℕ) (f : Fill) → i ≤ m → m < length fs → AllFilled edge (insert fs i f) → AllFilled false (insert (take m fs) i f) × AllFilled edge (drop m fs)

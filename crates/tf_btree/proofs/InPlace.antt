@@ -3,14 +3,14 @@ use Rattle.std.proofs.Common.{◌≡◌, ℕ, zero, suc, ◌<◌, List, [], ◌�
 use Rattle.std.specs.declared.boxed.Box.{Box}
 use Rattle.std.specs.List.{insert}
 use Rattle.std.proofs.lemmas.List.{set-get_or, length-set}
-use Rattle.tf_btree.specs.Shape.{IsFilled}
+use Rattle.tf_btree.specs.Shape.{IsFilled, edge_at}
 use Rattle.tf_btree.specs.Subtree.{Subtree, joined, rows, fill_of}
-use Rattle.tf_btree.specs.Node.{first_key, parts_of, subtree_of, unboxed, IsNode}
+use Rattle.tf_btree.specs.Node.{first_key, parts_of, subtree_of, unboxed, IsCounted, IsNode}
 use Rattle.tf_btree.proofs.Entries.{same_parts, length-seen, entry_first}
-use Rattle.tf_btree.proofs.Filled.{edge_at, filled_edited, filled_branch}
+use Rattle.tf_btree.proofs.Filled.{filled_edited, filled_branch}
 use Rattle.tf_btree.proofs.Children.{ChildAt, ChildPut, child_put, child_filled}
 
-some_first : {K V : Type 0} (rows : List (K × V)) (k : K) → Some k ≡ first_key rows → 0 < length rows
+pub some_first : {K V : Type 0} (rows : List (K × V)) (k : K) → Some k ≡ first_key rows → 0 < length rows
 some_first [] k e = absurd (cc)
 some_first (r ∷ rows) k e = omega arith
 
@@ -53,13 +53,13 @@ kept_key {K} {V} b ks vs bs s i k child n is lt entry =
 
 -- a branch with a child edited that begins as before keeps its keys
 pub child_kept : {K V A : Type 0} (b : Bool) (ks : List K) (vs : List V) (bs : List (Box (Subtree K V) A)) (s : Subtree K V) (i : ℕ) (y : Box (Subtree K V) A) (child : Subtree K V) → b ≡ true → IsNode b ks vs (unboxed bs)
-    → subtree_of b ks vs (unboxed bs) ≡ s → i < length s.parts → ChildAt s i child → first_key (rows y.value) ≡ first_key (rows child) → y.value.height ≡ child.height → ChildPut b ks vs (unboxed (set bs i y)) s i y.value
-child_kept b [] vs bs s i y child e n is lt at first height = let long = length-seen b [] vs (unboxed bs) s n is in absurd (omega arith)
-child_kept {K} {V} b (k ∷ ks) vs bs s i y child e n is lt at first height =
+    → subtree_of b ks vs (unboxed bs) ≡ s → i < length s.parts → ChildAt s i child → first_key (rows y.value) ≡ first_key (rows child) → y.value.height ≡ child.height → IsCounted y.value → ChildPut b ks vs (unboxed (set bs i y)) s i y.value
+child_kept b [] vs bs s i y child e n is lt at first height counted = let long = length-seen b [] vs (unboxed bs) s n is in absurd (omega arith)
+child_kept {K} {V} b (k ∷ ks) vs bs s i y child e n is lt at first height counted =
     let long = length-seen b (k ∷ ks) vs (unboxed bs) s n is in
     let within : i < length (k ∷ ks) = omega arith in
     let key = first ∙ kept_key b (k ∷ ks) vs bs s i k child n is within at.entry in
-    let put = child_put b (k ∷ ks) vs bs s i (get_or (k ∷ ks) i k) y e n is lt key (at.level ∙ ap suc (sym height)) in
+    let put = child_put b (k ∷ ks) vs bs s i (get_or (k ∷ ks) i k) y e n is lt key (at.level ∙ ap suc (sym height)) counted in
     subst (λ (ls : List K). ChildPut b ls vs (unboxed (set bs i y)) s i y.value) (set-get_or (k ∷ ks) i k) put
 
 -- and stays filled where the child does

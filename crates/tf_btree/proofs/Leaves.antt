@@ -3,9 +3,9 @@ use Rattle.std.proofs.Common.{◌≡◌, ℕ, zero, suc, List, [], ◌∷◌, �
 use Rattle.std.specs.declared.boxed.Box.{Box}
 use Rattle.std.proofs.lemmas.List.{take-map, drop-map}
 use Rattle.tf_btree.specs.Subtree.{Subtree, joined, rows}
-use Rattle.tf_btree.specs.Node.{first_key, AllHigh, height_of, parts_of, subtree_of, IsNode, unbox, unboxed}
+use Rattle.tf_btree.specs.Node.{first_key, AllChildren, height_of, parts_of, subtree_of, IsNode, unbox, unboxed}
 use Rattle.tf_btree.specs.Run.{pairs, rows_of, AllLeaves}
-use Rattle.tf_btree.proofs.Entries.{AllHigh-at, leaf_same, length-parts, same_height, same_parts, some_parts}
+use Rattle.tf_btree.proofs.Entries.{AllChildren-at, leaf_same, length-parts, same_height, same_parts, some_parts}
 use Rattle.tf_btree.proofs.Placed.{leaf_parts}
 
 AllLeaves-take : {K V : Type 0} (n : ℕ) (cs : List (Subtree K V)) → AllLeaves cs → AllLeaves (take n cs)
@@ -27,18 +27,18 @@ rows_of-append [] ds = refl
 rows_of-append (c ∷ cs) ds = ap (λ r. rows c ++ r) (rows_of-append cs ds) ∙ sym (append_assoc (rows c) (rows_of cs) (rows_of ds))
 
 -- children of height 0, each with a first key
-leaves_in : {K V : Type 0} (ks : List K) (cs : List (Subtree K V)) → map Some ks ≡ map first_key (map rows cs) → AllHigh 1 cs → AllLeaves cs
+leaves_in : {K V : Type 0} (ks : List K) (cs : List (Subtree K V)) → map Some ks ≡ map first_key (map rows cs) → AllChildren 1 cs → AllLeaves cs
 leaves_in ks [] e h = tt
 leaves_in [] (c ∷ cs) e h = absurd (cc)
 leaves_in (k ∷ ks) (c ∷ cs) e h =
     let first : Some k ≡ first_key (rows c) = cc in
     let rest : map Some ks ≡ map first_key (map rows cs) = cc in
-    let level : suc c.height ≡ 1 = h.0 in
+    let level : suc c.height ≡ 1 = h.0.level in
     (omega arith, some_parts c k first, leaves_in ks cs rest h.1)
 
 bottom_leaves : {K V : Type 0} (b : Bool) (ks : List K) (vs : List V) (cs : List (Subtree K V)) → b ≡ true → IsNode b ks vs cs → height_of b cs ≡ 1 → AllLeaves cs
 bottom_leaves false ks vs cs e n h = absurd (cc)
-bottom_leaves true ks vs cs e n h = leaves_in ks cs n.first_keys (AllHigh-at 1 _ cs h n.kind.1)
+bottom_leaves true ks vs cs e n h = leaves_in ks cs n.first_keys (AllChildren-at 1 _ cs h n.kind.1)
 
 branch_parts : {K V : Type 0} (b : Bool) (ks : List K) (vs : List V) (cs : List (Subtree K V)) → b ≡ true → parts_of b ks vs cs ≡ map rows cs
 branch_parts false ks vs cs e = absurd (cc)

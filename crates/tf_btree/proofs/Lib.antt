@@ -7,6 +7,7 @@ pub mod Placed
 pub mod Edited
 pub mod Children
 pub mod InPlace
+pub mod Height
 pub mod Count
 pub mod Leaves
 pub mod RunLemmas

@@ -11,7 +11,28 @@ use Rattle.std.proofs.lemmas.List.Elements.{filter-append}
 use Rattle.std.proofs.lemmas.List.Folds.{find-append}
 use Rattle.tf_btree.specs.Node.{first_key}
 use Rattle.tf_btree.specs.Place.{AllBefore, AllBeyond, Among}
-use Rattle.tf_btree.specs.Rows.{AllAfter, IsRising, rows_below, rows_above, rows_from, rows_upto, value_at, with_row, without_row}
+use Rattle.tf_btree.specs.Rows.{AllAfter, IsRising, rows_below, rows_above, rows_from, value_at, with_row, without_row}
+
+-- the order that a test tells
+pub less_is : (o : Ordering) → is_lt o ≡ true → o ≡ Less
+less_is Less e = refl
+less_is Equal e = absurd (let t : false ≡ true = e in cc)
+less_is Greater e = absurd (let t : false ≡ true = e in cc)
+
+pub equal_is : (o : Ordering) → is_eq o ≡ true → o ≡ Equal
+equal_is Less e = absurd (let t : false ≡ true = e in cc)
+equal_is Equal e = refl
+equal_is Greater e = absurd (let t : false ≡ true = e in cc)
+
+pub greater_is : (o : Ordering) → is_gt o ≡ true → o ≡ Greater
+greater_is Less e = absurd (let t : false ≡ true = e in cc)
+greater_is Equal e = absurd (let t : false ≡ true = e in cc)
+greater_is Greater e = refl
+
+pub greater_left : (o : Ordering) → is_lt o ≡ false → is_eq o ≡ false → is_gt o ≡ true
+greater_left Less a b = absurd (let t : true ≡ false = a in cc)
+greater_left Equal a b = absurd (let t : true ≡ false = b in cc)
+greater_left Greater a b = refl
 
 module _ {K : Type 0} (cmp : K → K → Ordering) (total : IsTotalOrder cmp) where
   greater_from_less : (x y : K) → cmp x y ≡ Less → cmp y x ≡ Greater
@@ -31,21 +52,6 @@ module _ {K : Type 0} (cmp : K → K → Ordering) (total : IsTotalOrder cmp) wh
   beyond_from f r k Less e h l = absurd (let t : true ≡ false = h in cc)
   beyond_from f r k Equal e h l = greater_from_less k r (sym (total.congr f k r e) ∙ l)
   beyond_from f r k Greater e h l = greater_from_less k r (total.trans k f r (less_from_greater f k e) l)
-
-  less_than : (o : Ordering) → is_lt o ≡ true → o ≡ Less
-  less_than Less e = refl
-  less_than Equal e = absurd (let t : false ≡ true = e in cc)
-  less_than Greater e = absurd (let t : false ≡ true = e in cc)
-
-  greater_is : (o : Ordering) → is_gt o ≡ true → o ≡ Greater
-  greater_is Less e = absurd (let t : false ≡ true = e in cc)
-  greater_is Equal e = absurd (let t : false ≡ true = e in cc)
-  greater_is Greater e = refl
-
-  not_less_from_greater : (o : Ordering) → is_gt o ≡ true → is_lt o ≡ false
-  not_less_from_greater Less e = absurd (let t : false ≡ true = e in cc)
-  not_less_from_greater Equal e = refl
-  not_less_from_greater Greater e = refl
 
 module _ {K V : Type 0} (cmp : K → K → Ordering) where
   pub AllBefore-append : (k : K) (xs ys : List (K × V)) → AllBefore cmp k xs → AllBefore cmp k ys → AllBefore cmp k (xs ++ ys)
@@ -105,39 +111,24 @@ module _ {K V : Type 0} (cmp : K → K → Ordering) where
     rising_beyond f k [] h e g = tt
     rising_beyond f k (y ∷ ys) h e g =
         let at : is_gt (cmp y.0 k) ≡ true = subst (λ (q : K). is_gt (cmp q k) ≡ true) (sym (first_is y ys f e)) g in
-        (greater_is cmp total (cmp y.0 k) at, beyond_after y.0 k ys (not_less_from_greater cmp total (cmp y.0 k) at) h.0)
+        let above = greater_is (cmp y.0 k) at in (above, beyond_after y.0 k ys (rw above refl) h.0)
 
-  pub below-before : (k : K) (xs : List (K × V)) → AllBefore cmp k xs → rows_below cmp k xs ≡ xs
-  below-before k [] a = refl
-  below-before k (x ∷ xs) a = rw a.0 (ap (λ r. x ∷ r) (below-before k xs a.1))
+  either_way : (b : Bool) (xs : List (K × V)) → xs ≡ cond b xs xs
+  either_way true xs = refl
+  either_way false xs = refl
 
-  above-before : (k : K) (xs : List (K × V)) → AllBefore cmp k xs → rows_above cmp k xs ≡ []
-  above-before k [] a = refl
-  above-before k (x ∷ xs) a = rw a.0 (above-before k xs a.1)
+  one_more : (b : Bool) (x : K × V) (xs ys : List (K × V)) → ys ≡ cond b xs [] → cond b (x ∷ ys) ys ≡ cond b (x ∷ xs) []
+  one_more true x xs ys e = ap (λ r. x ∷ r) e
+  one_more false x xs ys e = e
 
-  pub from-before : (k : K) (xs : List (K × V)) → AllBefore cmp k xs → rows_from cmp k xs ≡ []
-  from-before k [] a = refl
-  from-before k (x ∷ xs) a = rw a.0 (from-before k xs a.1)
+  -- a test on the order of a row's key and k passes all rows before k or none, and so beyond it
+  pub tested-before : (p : Ordering → Bool) (k : K) (xs : List (K × V)) → AllBefore cmp k xs → filter (λ (r : K × V). p (cmp r.0 k)) xs ≡ cond (p Less) xs []
+  tested-before p k [] a = either_way (p Less) []
+  tested-before p k (x ∷ xs) a = rw a.0 (one_more (p Less) x xs _ (tested-before p k xs a.1))
 
-  upto-before : (k : K) (xs : List (K × V)) → AllBefore cmp k xs → rows_upto cmp k xs ≡ xs
-  upto-before k [] a = refl
-  upto-before k (x ∷ xs) a = rw a.0 (ap (λ r. x ∷ r) (upto-before k xs a.1))
-
-  below-beyond : (k : K) (xs : List (K × V)) → AllBeyond cmp k xs → rows_below cmp k xs ≡ []
-  below-beyond k [] a = refl
-  below-beyond k (x ∷ xs) a = rw a.0 (below-beyond k xs a.1)
-
-  above-beyond : (k : K) (xs : List (K × V)) → AllBeyond cmp k xs → rows_above cmp k xs ≡ xs
-  above-beyond k [] a = refl
-  above-beyond k (x ∷ xs) a = rw a.0 (ap (λ r. x ∷ r) (above-beyond k xs a.1))
-
-  pub from-beyond : (k : K) (xs : List (K × V)) → AllBeyond cmp k xs → rows_from cmp k xs ≡ xs
-  from-beyond k [] a = refl
-  from-beyond k (x ∷ xs) a = rw a.0 (ap (λ r. x ∷ r) (from-beyond k xs a.1))
-
-  upto-beyond : (k : K) (xs : List (K × V)) → AllBeyond cmp k xs → rows_upto cmp k xs ≡ []
-  upto-beyond k [] a = refl
-  upto-beyond k (x ∷ xs) a = rw a.0 (upto-beyond k xs a.1)
+  pub tested-beyond : (p : Ordering → Bool) (k : K) (xs : List (K × V)) → AllBeyond cmp k xs → filter (λ (r : K × V). p (cmp r.0 k)) xs ≡ cond (p Greater) xs []
+  tested-beyond p k [] a = either_way (p Greater) []
+  tested-beyond p k (x ∷ xs) a = rw a.0 (one_more (p Greater) x xs _ (tested-beyond p k xs a.1))
 
   find-before : (k : K) (xs : List (K × V)) → AllBefore cmp k xs → find (λ (r : K × V). is_eq (cmp r.0 k)) xs ≡ None
   find-before k [] a = refl
@@ -148,25 +139,19 @@ module _ {K V : Type 0} (cmp : K → K → Ordering) where
   find-beyond k (x ∷ xs) a = rw a.0 (find-beyond k xs a.1)
 
   module _ (k : K) (a b c : List (K × V)) (h : Among cmp k a c) where
-    pub below-among : rows_below cmp k (a ++ (b ++ c)) ≡ a ++ rows_below cmp k b
-    below-among =
-        let p = λ (r : K × V). is_lt (cmp r.0 k) in
-        filter-append p a (b ++ c) ∙ ap (λ r. r ++ filter p (b ++ c)) (below-before k a h.before) ∙ ap (λ r. a ++ r) (filter-append p b c ∙ ap (λ r. filter p b ++ r) (below-beyond k c h.beyond) ∙ append-nil (filter p b))
+    pub tested-among : (p : Ordering → Bool) → filter (λ (r : K × V). p (cmp r.0 k)) (a ++ (b ++ c)) ≡ cond (p Less) a [] ++ (filter (λ (r : K × V). p (cmp r.0 k)) b ++ cond (p Greater) c [])
+    tested-among p =
+        let q = λ (r : K × V). p (cmp r.0 k) in
+        filter-append q a (b ++ c) ∙ ap (λ r. r ++ filter q (b ++ c)) (tested-before p k a h.before) ∙ ap (λ r. cond (p Less) a [] ++ r) (filter-append q b c ∙ ap (λ r. filter q b ++ r) (tested-beyond p k c h.beyond))
 
-    pub above-among : rows_above cmp k (a ++ (b ++ c)) ≡ rows_above cmp k b ++ c
-    above-among =
-        let p = λ (r : K × V). is_gt (cmp r.0 k) in
-        filter-append p a (b ++ c) ∙ ap (λ r. r ++ filter p (b ++ c)) (above-before k a h.before) ∙ filter-append p b c ∙ ap (λ r. filter p b ++ r) (above-beyond k c h.beyond)
+    below-among : rows_below cmp k (a ++ (b ++ c)) ≡ a ++ rows_below cmp k b
+    below-among = tested-among is_lt ∙ ap (λ r. a ++ r) (append-nil (rows_below cmp k b))
+
+    above-among : rows_above cmp k (a ++ (b ++ c)) ≡ rows_above cmp k b ++ c
+    above-among = tested-among is_gt
 
     pub from-among : rows_from cmp k (a ++ (b ++ c)) ≡ rows_from cmp k b ++ c
-    from-among =
-        let p = λ (r : K × V). not (is_lt (cmp r.0 k)) in
-        filter-append p a (b ++ c) ∙ ap (λ r. r ++ filter p (b ++ c)) (from-before k a h.before) ∙ filter-append p b c ∙ ap (λ r. filter p b ++ r) (from-beyond k c h.beyond)
-
-    pub upto-among : rows_upto cmp k (a ++ (b ++ c)) ≡ a ++ rows_upto cmp k b
-    upto-among =
-        let p = λ (r : K × V). not (is_gt (cmp r.0 k)) in
-        filter-append p a (b ++ c) ∙ ap (λ r. r ++ filter p (b ++ c)) (upto-before k a h.before) ∙ ap (λ r. a ++ r) (filter-append p b c ∙ ap (λ r. filter p b ++ r) (upto-beyond k c h.beyond) ∙ append-nil (filter p b))
+    from-among = tested-among (λ o. not (is_lt o))
 
     pub with_row-among : (v : V) → with_row cmp k v (a ++ (b ++ c)) ≡ a ++ (with_row cmp k v b ++ c)
     with_row-among v =
@@ -194,7 +179,7 @@ module _ {K V : Type 0} (cmp : K → K → Ordering) where
   pub from_before_all : (k : K) (a d : List (K × V)) → AllBefore cmp k a → rows_from cmp k (a ++ d) ≡ rows_from cmp k d
   from_before_all k a d h =
       let p = λ (r : K × V). not (is_lt (cmp r.0 k)) in
-      filter-append p a d ∙ ap (λ r. r ++ filter p d) (from-before k a h)
+      filter-append p a d ∙ ap (λ r. r ++ filter p d) (tested-before (λ o. not (is_lt o)) k a h)
 
   -- what is among no row, and among one of the same key
   pub with_row-gap : (k : K) (v : V) (a c : List (K × V)) → Among cmp k a c → with_row cmp k v (a ++ c) ≡ a ++ (k, v) ∷ c
@@ -226,7 +211,7 @@ module _ {K V : Type 0} (cmp : K → K → Ordering) where
 
   module _ (total : IsTotalOrder cmp) where
     kept_before : (k : K) (x : K × V) (xs : List (K × V)) (b : Bool) → is_lt (cmp x.0 k) ≡ b → AllBefore cmp k xs → AllBefore cmp k (cond b (x ∷ xs) xs)
-    kept_before k x xs true e rest = (less_than cmp total (cmp x.0 k) e, rest)
+    kept_before k x xs true e rest = (less_is (cmp x.0 k) e, rest)
     kept_before k x xs false e rest = rest
 
     below_before : (k : K) (xs : List (K × V)) → AllBefore cmp k (rows_below cmp k xs)
@@ -234,7 +219,7 @@ module _ {K V : Type 0} (cmp : K → K → Ordering) where
     below_before k (x ∷ xs) = kept_before k x (rows_below cmp k xs) (is_lt (cmp x.0 k)) refl (below_before k xs)
 
     kept_after : (k : K) (x : K × V) (xs : List (K × V)) (b : Bool) → is_gt (cmp x.0 k) ≡ b → AllAfter cmp k xs → AllAfter cmp k (cond b (x ∷ xs) xs)
-    kept_after k x xs true e rest = (less_from_greater cmp total x.0 k (greater_is cmp total (cmp x.0 k) e), rest)
+    kept_after k x xs true e rest = (less_from_greater cmp total x.0 k (greater_is (cmp x.0 k) e), rest)
     kept_after k x xs false e rest = rest
 
     above_after : (k : K) (xs : List (K × V)) → AllAfter cmp k (rows_above cmp k xs)
@@ -245,17 +230,13 @@ module _ {K V : Type 0} (cmp : K → K → Ordering) where
     after_less j k [] l a = tt
     after_less j k (x ∷ xs) l a = (total.trans j k x.0 l a.0, after_less j k xs l a.1)
 
-    after_all : (k : K) (xs ys : List (K × V)) → AllAfter cmp k xs → AllAfter cmp k ys → AllAfter cmp k (xs ++ ys)
-    after_all k [] ys a b = b
-    after_all k (x ∷ xs) ys a b = (a.0, after_all k xs ys a.1 b)
-
     rising_around : (k : K) (v : V) (xs ys : List (K × V)) → IsRising cmp xs → AllBefore cmp k xs → IsRising cmp ys → AllAfter cmp k ys → IsRising cmp (xs ++ (k, v) ∷ ys)
     rising_around k v [] ys h b i a = (a, i)
-    rising_around k v (x ∷ xs) ys h b i a = (after_all x.0 xs ((k, v) ∷ ys) h.0 (b.0, after_less x.0 k ys b.0 a), rising_around k v xs ys h.1 b.1 i a)
+    rising_around k v (x ∷ xs) ys h b i a = (AllAfter-append cmp x.0 xs ((k, v) ∷ ys) h.0 (b.0, after_less x.0 k ys b.0 a), rising_around k v xs ys h.1 b.1 i a)
 
     rising_past : (k : K) (xs ys : List (K × V)) → IsRising cmp xs → AllBefore cmp k xs → IsRising cmp ys → AllAfter cmp k ys → IsRising cmp (xs ++ ys)
     rising_past k [] ys h b i a = i
-    rising_past k (x ∷ xs) ys h b i a = (after_all x.0 xs ys h.0 (after_less x.0 k ys b.0 a), rising_past k xs ys h.1 b.1 i a)
+    rising_past k (x ∷ xs) ys h b i a = (AllAfter-append cmp x.0 xs ys h.0 (after_less x.0 k ys b.0 a), rising_past k xs ys h.1 b.1 i a)
 
     -- an edit keeps the keys rising
     pub rising-with_row : (k : K) (v : V) (xs : List (K × V)) → IsRising cmp xs → IsRising cmp (with_row cmp k v xs)
@@ -273,7 +254,7 @@ module _ {K V : Type 0} (cmp : K → K → Ordering) where
     sided_more k x xs h i Less e = rw e (omega arith)
     sided_more k x xs h i Equal e =
         let far = beyond_after cmp total x.0 k xs (rw e refl) h.0 in
-        rw (e, below-beyond cmp k xs far, above-beyond cmp k xs far) (omega arith)
+        rw (e, tested-beyond cmp is_lt k xs far, tested-beyond cmp is_gt k xs far) (omega arith)
     sided_more k x xs h i Greater e = rw e (omega arith)
 
     sides : (k : K) (xs : List (K × V)) → IsRising cmp xs → Sided k xs

@@ -3,7 +3,6 @@ use Rattle.std.proofs.Common.{◌≡◌, ℕ, zero, suc, ◌-◌, ◌<◌, ◌�
 use Rattle.std.specs.Cmp.{IsTotalOrder}
 use Rattle.std.proofs.lemmas.Bool.{cases_lt}
 use Rattle.std.specs.declared.cmp.Ordering.{Ordering}
-use Rattle.std.specs.declared.cmp.Ordering.TheVariants.{Less, Equal, Greater}
 use Rattle.std.specs.Ordering.{is_lt, is_eq, is_gt}
 use Rattle.std.proofs.lemmas.List.{drop_all, append-nil, length-map}
 use Rattle.tf_btree.specs.Subtree.{Subtree, joined, rows}
@@ -11,7 +10,7 @@ use Rattle.tf_btree.specs.Node.{first_key, single_rows, parts_of, subtree_of, Is
 use Rattle.tf_btree.specs.Rows.{IsRising, value_at}
 use Rattle.tf_btree.specs.Place.{AllBefore, AllBeyond, IsAt, IsGap, IsBelow}
 use Rattle.tf_btree.proofs.Entries.{same_parts, length-seen, leaf_same}
-use Rattle.tf_btree.proofs.Order.{AllBefore-append, AllBeyond-right, IsRising-left, IsRising-right, value_at-among, value_at-at, value_at-gap, rising_across, before_upto, beyond_after, rising_beyond}
+use Rattle.tf_btree.proofs.Order.{less_is, equal_is, greater_left, AllBefore-append, AllBeyond-right, IsRising-left, IsRising-right, value_at-among, value_at-at, value_at-gap, rising_across, before_upto, beyond_after, rising_beyond}
 use Rattle.tf_btree.proofs.Parts.{joined-take-drop, joined_split}
 
 pub joined-drop : {X : Type 0} (ps : List (List X)) (i : ℕ) (d : List X) → i < length ps → joined (drop i ps) ≡ get_or ps i d ++ joined (drop (suc i) ps)
@@ -38,7 +37,7 @@ joined_first (k ∷ ks) [] i d e lt = absurd (cc)
 joined_first (k ∷ ks) (p ∷ ps) zero d e lt = first_key-append p (joined ps) k (sym (same_firsts_tail k ks p ps e).0)
 joined_first (k ∷ ks) (p ∷ ps) (suc i) d e lt = joined_first ks ps i d (same_firsts_tail k ks p ps e).1 (omega arith)
 
-same_length : {K V : Type 0} (ks : List K) (ps : List (List (K × V))) → map Some ks ≡ map first_key ps → length ks ≡ length ps
+pub same_length : {K V : Type 0} (ks : List K) (ps : List (List (K × V))) → map Some ks ≡ map first_key ps → length ks ≡ length ps
 same_length ks ps e = sym (length-map ks Some) ∙ ap length e ∙ length-map ps first_key
 
 module _ {K V : Type 0} (cmp : K → K → Ordering) (total : IsTotalOrder cmp) (k : K) (ks : List K) (ps : List (List (K × V))) (firsts : map Some ks ≡ map first_key ps) (rising : IsRising cmp (joined ps)) where
@@ -77,29 +76,6 @@ single_at (k ∷ ks) [] i d e lt = absurd (omega arith)
 single_at (k ∷ ks) (v ∷ vs) zero d e lt = (v, refl)
 single_at (k ∷ ks) (v ∷ vs) (suc i) d e lt = single_at ks vs i d (omega arith) (omega arith)
 
-less_is : (o : Ordering) → is_lt o ≡ true → o ≡ Less
-less_is Less e = refl
-less_is Equal e = absurd (let t : false ≡ true = e in cc)
-less_is Greater e = absurd (let t : false ≡ true = e in cc)
-
-equal_is : (o : Ordering) → is_eq o ≡ true → o ≡ Equal
-equal_is Less e = absurd (let t : false ≡ true = e in cc)
-equal_is Equal e = refl
-equal_is Greater e = absurd (let t : false ≡ true = e in cc)
-
-not_greater : (o : Ordering) → is_lt o ≡ true → is_gt o ≡ false
-not_greater Less e = refl
-not_greater Equal e = refl
-not_greater Greater e = absurd (let t : false ≡ true = e in cc)
-
-not_less : (o : Ordering) → o ≡ Equal → is_lt o ≡ false
-not_less o e = rw e refl
-
-greater_left : (o : Ordering) → is_lt o ≡ false → is_eq o ≡ false → is_gt o ≡ true
-greater_left Less a b = absurd (let t : true ≡ false = a in cc)
-greater_left Equal a b = absurd (let t : true ≡ false = b in cc)
-greater_left Greater a b = refl
-
 module _ {K V : Type 0} (cmp : K → K → Ordering) (total : IsTotalOrder cmp) (k : K) (ks : List K) (vs : List V) (same : length ks ≡ length vs) (firsts : map Some ks ≡ map first_key (single_rows ks vs)) (rising : IsRising cmp (joined (single_rows ks vs))) where
   -- the rows before a place whose last key is below k
   pub leaf_before : (n : ℕ) (d : K) → n ≤ length ks → (0 < n → is_lt (cmp (get_or ks (n - 1) d) k) ≡ true) → AllBefore cmp k (joined (take n (single_rows ks vs)))
@@ -110,7 +86,7 @@ module _ {K V : Type 0} (cmp : K → K → Ordering) (total : IsTotalOrder cmp) 
       let less = less_is (cmp (get_or ks m d) k) below in
       let entry = single_at ks vs m d same (omega arith) in
       let e = same_length ks (single_rows ks vs) firsts in
-      let front = before_at cmp total k ks (single_rows ks vs) firsts rising m d (omega arith) (not_greater _ below) in
+      let front = before_at cmp total k ks (single_rows ks vs) firsts rising m d (omega arith) (rw less refl) in
       let here : AllBefore cmp k (get_or (single_rows ks vs) m []) = rw entry.1 (less, tt) in
       let more : joined (take (suc m) (single_rows ks vs)) ≡ joined (take m (single_rows ks vs)) ++ get_or (single_rows ks vs) m [] = joined-take_more (single_rows ks vs) m [] (omega arith) in
       subst (λ (r : List (K × V)). AllBefore cmp k r) (sym more) (AllBefore-append cmp k (joined (take m (single_rows ks vs))) (get_or (single_rows ks vs) m []) front here)
@@ -127,7 +103,7 @@ module _ {K V : Type 0} (cmp : K → K → Ordering) (total : IsTotalOrder cmp) 
       record {
         in_range = omega arith;
         row = (get_or ks n d, entry.0, entry.1, here);
-        among = record { before = leaf_before n d (omega arith) before; beyond = beyond_after cmp total (get_or ks n d) k _ (not_less _ here) rest.0 };
+        among = record { before = leaf_before n d (omega arith) before; beyond = beyond_after cmp total (get_or ks n d) k _ (rw here refl) rest.0 };
       }
 
   -- the place of k, where it isn't found

@@ -1,5 +1,5 @@
 -- Runs of rows: the first rows from a key on, and what follows them.
-use Rattle.std.proofs.Common.{◌≡◌, ℕ, suc, ◌+◌, ◌-◌, ◌<◌, ◌≤◌, List, [], ◌∷◌, ◌++◌, length, map, take, drop, get_or, Some, None, Option, IsSome, Bool, true, false, refl, sym, ◌∙◌, ap, subst, arith, inl, inr, append_assoc}
+use Rattle.std.proofs.Common.{◌≡◌, ℕ, suc, ◌+◌, ◌-◌, ◌<◌, ◌≤◌, List, [], ◌∷◌, ◌++◌, length, map, take, drop, get_or, Some, None, Option, IsSome, Bool, true, false, not, refl, sym, ◌∙◌, ap, subst, arith, inl, inr, append_assoc}
 use Rattle.std.specs.Cmp.{IsTotalOrder}
 use Rattle.std.specs.Option.{option_or}
 use Rattle.std.specs.declared.cmp.Ordering.{Ordering}
@@ -16,7 +16,7 @@ use Rattle.tf_btree.specs.Cursor.{IsKeyOf}
 use Rattle.std.proofs.lemmas.Cmp.{tied_itself}
 use Rattle.tf_btree.proofs.Runs.{drop-single_rows, same_drop, length-single_rows}
 use Rattle.tf_btree.proofs.Entries.{leaf_same, same_parts}
-use Rattle.tf_btree.proofs.Order.{IsRising-right, rising_across, beyond_after, from-beyond, from-among, value_at-at, from_before_all}
+use Rattle.tf_btree.proofs.Order.{IsRising-right, rising_across, beyond_after, tested-beyond, from-among, value_at-at, from_before_all}
 use Rattle.tf_btree.proofs.Placed.{leaf_before, leaf_gap, leaf_parts, joined_first, value_gap}
 use Rattle.tf_btree.proofs.Parts.{joined-take-drop, joined_split}
 
@@ -29,7 +29,7 @@ module _ {K V : Type 0} (cmp : K → K → Ordering) (total : IsTotalOrder cmp) 
   from_all [] h first = refl
   from_all (y ∷ ys) h first =
       let at : is_lt (cmp y.0 k) ≡ false = first y.0 refl in
-      rw at (ap (λ (r : List (K × V)). y ∷ r) (from-beyond cmp k ys (beyond_after cmp total y.0 k ys at h.0)))
+      rw at (ap (λ (r : List (K × V)). y ∷ r) (tested-beyond cmp (λ o. not (is_lt o)) k ys (beyond_after cmp total y.0 k ys at h.0)))
 
   -- the rows behind a place where the keys are no longer below k
   from_place : (a d : List (K × V)) → IsRising cmp (a ++ d) → AllBefore cmp k a → ((f : K) → first_key d ≡ Some f → is_lt (cmp f k) ≡ false) → rows_from cmp k (a ++ d) ≡ d

@@ -1,9 +1,10 @@
 -- What an edit of a node's runs makes of its entries.
 use Rattle.std.proofs.Common.{◌≡◌, ℕ, zero, suc, ◌<◌, List, [], ◌∷◌, ◌++◌, length, map, take, drop, Some, refl, sym, ◌∙◌, ap, subst, arith}
 use Rattle.std.specs.List.{insert, remove}
-use Rattle.std.proofs.lemmas.List.{map-append, take-map, drop-map, length-take, length-drop}
+use Rattle.std.proofs.lemmas.List.{map-append, take-map, drop-map, length-append, length-take, length-drop}
 use Rattle.tf_btree.specs.Subtree.{Subtree}
-use Rattle.tf_btree.specs.Node.{first_key, single_rows, AllHigh, height_over}
+use Rattle.tf_btree.specs.Run.{pairs}
+use Rattle.tf_btree.specs.Node.{first_key, single_rows, AllChildren, height_over}
 
 pub single_rows-append : {K V : Type 0} (ks ls : List K) (vs ws : List V) → length ks ≡ length vs → single_rows (ks ++ ls) (vs ++ ws) ≡ single_rows ks vs ++ single_rows ls ws
 single_rows-append [] ls [] ws e = refl
@@ -15,6 +16,14 @@ pub length-single_rows : {K V : Type 0} (ks : List K) (vs : List V) → length k
 length-single_rows [] vs e = refl
 length-single_rows (k ∷ ks) [] e = absurd (omega arith)
 length-single_rows (k ∷ ks) (v ∷ vs) e = ap suc (length-single_rows ks vs (omega arith))
+
+pub length-pairs : {K V : Type 0} (ks : List K) (vs : List V) → length ks ≡ length vs → length (pairs ks vs) ≡ length ks
+length-pairs [] vs e = refl
+length-pairs (k ∷ ks) [] e = absurd (omega arith)
+length-pairs (k ∷ ks) (v ∷ vs) e = ap suc (length-pairs ks vs (omega arith))
+
+pub length_insert_pos : {X : Type 0} (xs : List X) (i : ℕ) (x : X) → 0 < length (insert xs i x)
+length_insert_pos xs i x = omega (arith, length-append (take i xs) (x ∷ drop i xs))
 
 pub take-single_rows : {K V : Type 0} (n : ℕ) (ks : List K) (vs : List V) → single_rows (take n ks) (take n vs) ≡ take n (single_rows ks vs)
 take-single_rows zero ks vs = refl
@@ -71,29 +80,29 @@ map-remove f xs i =
     let b = drop-map f (suc i) xs in
     cc
 
-pub AllHigh-append : {K V : Type 0} (h : ℕ) (cs ds : List (Subtree K V)) → AllHigh h cs → AllHigh h ds → AllHigh h (cs ++ ds)
-AllHigh-append h [] ds a b = b
-AllHigh-append h (c ∷ cs) ds a b = (a.0, AllHigh-append h cs ds a.1 b)
+pub AllChildren-append : {K V : Type 0} (h : ℕ) (cs ds : List (Subtree K V)) → AllChildren h cs → AllChildren h ds → AllChildren h (cs ++ ds)
+AllChildren-append h [] ds a b = b
+AllChildren-append h (c ∷ cs) ds a b = (a.0, AllChildren-append h cs ds a.1 b)
 
-pub AllHigh-take : {K V : Type 0} (h n : ℕ) (cs : List (Subtree K V)) → AllHigh h cs → AllHigh h (take n cs)
-AllHigh-take h zero cs a = tt
-AllHigh-take h (suc n) [] a = tt
-AllHigh-take h (suc n) (c ∷ cs) a = (a.0, AllHigh-take h n cs a.1)
+pub AllChildren-take : {K V : Type 0} (h n : ℕ) (cs : List (Subtree K V)) → AllChildren h cs → AllChildren h (take n cs)
+AllChildren-take h zero cs a = tt
+AllChildren-take h (suc n) [] a = tt
+AllChildren-take h (suc n) (c ∷ cs) a = (a.0, AllChildren-take h n cs a.1)
 
-pub AllHigh-drop : {K V : Type 0} (h n : ℕ) (cs : List (Subtree K V)) → AllHigh h cs → AllHigh h (drop n cs)
-AllHigh-drop h zero cs a = a
-AllHigh-drop h (suc n) [] a = tt
-AllHigh-drop h (suc n) (c ∷ cs) a = AllHigh-drop h n cs a.1
+pub AllChildren-drop : {K V : Type 0} (h n : ℕ) (cs : List (Subtree K V)) → AllChildren h cs → AllChildren h (drop n cs)
+AllChildren-drop h zero cs a = a
+AllChildren-drop h (suc n) [] a = tt
+AllChildren-drop h (suc n) (c ∷ cs) a = AllChildren-drop h n cs a.1
 
--- subtrees that are equally high have that height over them, unless there is none
-pub height_over-high : {K V : Type 0} (h : ℕ) (cs : List (Subtree K V)) → AllHigh h cs → 0 < length cs → height_over cs ≡ h
+-- children have that height over them, unless there is none
+pub height_over-high : {K V : Type 0} (h : ℕ) (cs : List (Subtree K V)) → AllChildren h cs → 0 < length cs → height_over cs ≡ h
 height_over-high h [] a some = absurd (omega arith)
-height_over-high h (c ∷ cs) a some = a.0
+height_over-high h (c ∷ cs) a some = a.0.level
 
 -- so any such list is high by its own measure
-pub AllHigh-own : {K V : Type 0} (h : ℕ) (cs : List (Subtree K V)) → AllHigh h cs → AllHigh (height_over cs) cs
-AllHigh-own h [] a = tt
-AllHigh-own h (c ∷ cs) a = subst (λ (m : ℕ). AllHigh m (c ∷ cs)) (sym a.0) a
+pub AllChildren-own : {K V : Type 0} (h : ℕ) (cs : List (Subtree K V)) → AllChildren h cs → AllChildren (height_over cs) cs
+AllChildren-own h [] a = tt
+AllChildren-own h (c ∷ cs) a = subst (λ (m : ℕ). AllChildren m (c ∷ cs)) (sym a.0.level) a
 
 -- no elements have none among the first, and none behind them
 pub take_none : {X : Type 0} (n : ℕ) (xs : List X) → xs ≡ [] → xs ≡ take n xs

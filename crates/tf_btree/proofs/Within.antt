@@ -10,7 +10,7 @@ use Rattle.std.specs.declared.ops.Bound.{Bound}
 use Rattle.std.specs.declared.ops.Bound.TheVariants.{Included, Excluded, Unbounded}
 use Rattle.std.specs.Ordering.{is_lt, is_gt, ordering_reverse}
 use Rattle.std.proofs.lemmas.Bool.{cases_lt}
-use Rattle.std.proofs.lemmas.List.{append-nil, drop_all, length-append, length-map, reverse-append, take_all, take_more}
+use Rattle.std.proofs.lemmas.List.{append-nil, drop_all, length-append, reverse-append, take_all, take_more}
 use Rattle.std.proofs.lemmas.List.Elements.{filter-append}
 use Rattle.tf_btree.specs.Subtree.{Subtree, joined, rows}
 use Rattle.tf_btree.specs.Node.{first_key, single_rows, parts_of, subtree_of, IsNode}
@@ -18,12 +18,12 @@ use Rattle.tf_btree.specs.Rows.{AllAfter, IsRising, rows_below}
 use Rattle.tf_btree.specs.Place.{AllBefore}
 use Rattle.tf_btree.specs.Run.{pairs, rows_of, AllLeaves}
 use Rattle.tf_btree.specs.RunBack.{is_within, rows_to, rows_before, HasBefore, IsCut, IsRunTo, IsRunBefore, IsLastWithin}
-use Rattle.tf_btree.proofs.Runs.{take-single_rows, same_take, single_rows-append}
-use Rattle.tf_btree.proofs.Entries.{leaf_same, same_parts, length-seen}
+use Rattle.tf_btree.proofs.Runs.{length-pairs, take-single_rows, same_take, single_rows-append}
+use Rattle.tf_btree.proofs.Entries.{get_or-first, leaf_same, same_parts, length-seen}
 use Rattle.tf_btree.proofs.Leaves.{rows_of-append, AllLeaves-parts}
-use Rattle.tf_btree.proofs.Order.{IsRising-right, rising_across, below-before}
+use Rattle.tf_btree.proofs.Order.{IsRising-right, rising_across, tested-before}
 use Rattle.tf_btree.proofs.Parts.{joined-append, joined-take-drop, joined_split}
-use Rattle.tf_btree.proofs.Placed.{joined-drop, joined-take_more, joined_first, first_key-append, behind_some, leaf_parts}
+use Rattle.tf_btree.proofs.Placed.{same_length, joined-drop, joined-take_more, joined_first, first_key-append, behind_some, leaf_parts}
 
 module _ {K : Type 0} (cmp : K → K → Ordering) (total : IsTotalOrder cmp) where
   less_upto : (x y k : K) (o : Ordering) → cmp y k ≡ o → not (is_gt o) ≡ true → cmp x y ≡ Less → not (is_gt (cmp x k)) ≡ true
@@ -55,21 +55,6 @@ rows_to-filter : {K V : Type 0} (cmp : K → K → Ordering) (end : Bound K) (xs
 rows_to-filter cmp (Included k) xs = refl
 rows_to-filter cmp (Excluded k) xs = refl
 rows_to-filter cmp Unbounded xs = sym (filter_true xs)
-
--- the key of an entry is the first one below it
-entry_key : {K V : Type 0} (ks : List K) (ps : List (List (K × V))) (i : ℕ) (d : K) → map Some ks ≡ map first_key ps → i < length ks → first_key (get_or ps i []) ≡ Some (get_or ks i d)
-entry_key [] ps i d e lt = absurd (omega arith)
-entry_key (k ∷ ks) [] i d e lt = absurd (cc)
-entry_key (k ∷ ks) (p ∷ ps) zero d e lt = cc
-entry_key (k ∷ ks) (p ∷ ps) (suc i) d e lt = let t : map Some ks ≡ map first_key ps = cc in entry_key ks ps i d t (omega arith)
-
-same_count : {K V : Type 0} (ks : List K) (ps : List (List (K × V))) → map Some ks ≡ map first_key ps → length ks ≡ length ps
-same_count ks ps e = sym (length-map ks Some) ∙ ap length e ∙ length-map ps first_key
-
-length-pairs : {K V : Type 0} (ks : List K) (vs : List V) → length ks ≡ length vs → length (pairs ks vs) ≡ length ks
-length-pairs [] vs e = refl
-length-pairs (k ∷ ks) [] e = absurd (omega arith)
-length-pairs (k ∷ ks) (v ∷ vs) e = ap suc (length-pairs ks vs (omega arith))
 
 -- a test on keys that each key below a passing one passes
 module _ {K : Type 0} (cmp : K → K → Ordering) (p : K → Bool) (down : (x y : K) → p y ≡ true → cmp x y ≡ Less → p x ≡ true) where
@@ -116,7 +101,7 @@ module _ {K V : Type 0} (cmp : K → K → Ordering) (p : K → Bool) (down : (x
     filter-drop : (n : ℕ) (d : K) → (n < length ks → p (get_or ks n d) ≡ false) → filter (λ (r : K × V). p r.0) (joined (drop n ps)) ≡ []
     filter-drop n d after = elim (cases_lt n (length ks)) [
       | inl lt ↦ filter-from (get_or ks n d) (joined (drop n ps)) (IsRising-right cmp (joined (take n ps)) (joined (drop n ps)) (rising_at n)) (joined_first ks ps n d firsts lt) (after lt)
-      | inr ge ↦ let e = same_count ks ps firsts in
+      | inr ge ↦ let e = same_length ks ps firsts in
           let none : drop n ps ≡ [] = drop_all n ps (omega arith) in
           rw none refl
     ]
@@ -129,7 +114,7 @@ module _ {K V : Type 0} (cmp : K → K → Ordering) (p : K → Bool) (down : (x
     filter-entry : (n : ℕ) (d : K) → 0 < length ks → n ≤ length ks → (0 < n → p (get_or ks (n - 1) d) ≡ true) → (n < length ks → p (get_or ks n d) ≡ false)
         → (filter (λ (r : K × V). p r.0) (joined ps) ≡ joined (take (n - 1) ps) ++ filter (λ (r : K × V). p r.0) (get_or ps (n - 1) [])) × (0 < n - 1 → 0 < length (filter (λ (r : K × V). p r.0) (get_or ps (n - 1) [])))
     filter-entry zero d some le before after =
-        let e = same_count ks ps firsts in
+        let e = same_length ks ps firsts in
         let q = λ (r : K × V). p r.0 in
         let none : filter q (joined ps) ≡ [] = filter-drop 0 d after in
         let split : joined ps ≡ get_or ps 0 [] ++ joined (drop 1 ps) = joined-drop ps 0 [] (omega arith) in
@@ -140,7 +125,7 @@ module _ {K V : Type 0} (cmp : K → K → Ordering) (p : K → Bool) (down : (x
         left_none [] b e = refl
         left_none (x ∷ a) b e = absurd (let t : x ∷ (a ++ b) ≡ [] = e in cc)
     filter-entry (suc m) d some le before after =
-        let e = same_count ks ps firsts in
+        let e = same_length ks ps firsts in
         let q = λ (r : K × V). p r.0 in
         let at : suc m - 1 ≡ m = omega arith in
         let pass : p (get_or ks m d) ≡ true = subst (λ (i : ℕ). p (get_or ks i d) ≡ true) at (before (omega arith)) in
@@ -150,7 +135,7 @@ module _ {K V : Type 0} (cmp : K → K → Ordering) (p : K → Bool) (down : (x
         rw at (
           ap (filter q) split ∙ filter-append q (joined (take m ps)) (get_or ps m [] ++ joined (drop (suc m) ps)) ∙ ap (λ (r : List (K × V)). r ++ filter q (get_or ps m [] ++ joined (drop (suc m) ps))) front
               ∙ ap (λ (r : List (K × V)). joined (take m ps) ++ r) (filter-append q (get_or ps m []) (joined (drop (suc m) ps)) ∙ ap (λ (r : List (K × V)). filter q (get_or ps m []) ++ r) behind ∙ append-nil (filter q (get_or ps m []))),
-          λ (lt : 0 < m). some_pass (get_or ks m d) (get_or ps m []) (entry_key ks ps m d firsts (omega arith)) pass,
+          λ (lt : 0 < m). some_pass (get_or ks m d) (get_or ps m []) (sym (get_or-first ks ps m d [] firsts (omega arith))) pass,
         )
 
   -- the rows of a leaf that pass are the first n, where the key before the n-th passes and that at it fails
@@ -160,7 +145,7 @@ module _ {K V : Type 0} (cmp : K → K → Ordering) (p : K → Bool) (down : (x
   filter-leaf ks vs same firsts rising (suc m) d le before after =
       let q = λ (r : K × V). p r.0 in
       let ps = single_rows ks vs in
-      let e = same_count ks ps firsts in
+      let e = same_length ks ps firsts in
       let at : suc m - 1 ≡ m = omega arith in
       let pass : p (get_or ks m d) ≡ true = subst (λ (i : ℕ). p (get_or ks i d) ≡ true) at (before (omega arith)) in
       let front = filter-take ks ps firsts rising m d (omega arith) pass in
@@ -297,7 +282,7 @@ cut_facts {K} {V} cmp total front back (Some k) h cut =
     let q = λ (r : K × V). is_lt (cmp r.0 k) in
     let tied : cmp k k ≡ Equal = tied_itself total k in
     let out : is_lt (cmp k k) ≡ false = rw tied refl in
-    let low = below-before cmp k front (rising_across cmp front back k h cut.1) in
+    let low = tested-before cmp is_lt k front (rising_across cmp front back k h cut.1) in
     let high = filter-from cmp (λ (x : K). is_lt (cmp x k)) (less_within cmp total (Excluded k)) k back (IsRising-right cmp front back h) cut.1 out in
     let all : rows_below cmp k (front ++ back) ≡ front = filter-append q front back ∙ ap (λ (r : List (K × V)). r ++ filter q back) low ∙ ap (λ (r : List (K × V)). front ++ r) high ∙ append-nil front in
     (all, subst (λ (r : List (K × V)). 0 < length r) (sym all) cut.0)

@@ -1,7 +1,8 @@
 -- What the runs of one node mean, and what holds of them.
-use Rattle.std.specs.Prelude.{◌≡◌, ℕ, suc, ◌≤◌, List, [], ◌∷◌, length, map, max, Option, Some, None, Bool, true, false}
+use Rattle.std.specs.Prelude.{◌≡◌, ℕ, suc, ◌≤◌, ◌^◌, List, [], ◌∷◌, length, map, max, Option, Some, None, Bool, true, false}
 use Rattle.std.specs.declared.boxed.Box.{Box}
 use Rattle.std.proofs.Common.{arith}
+use Rattle.tf_btree.specs.Shape.{IsFilled, capacity, half_full}
 use Rattle.tf_btree.specs.Subtree.{Subtree, rows, fill_of}
 use denote.Param.Weighed.{most}
 
@@ -17,6 +18,11 @@ unbox b = b.value
 -- what the boxes hold
 abbrev pub unboxed : {X Z : Type 0} → List (Box X Z) → List X
 unboxed bs = map unbox bs
+
+-- a node of this kind without entries
+abbrev pub empty_node : {K V : Type 0} → Bool → Subtree K V
+empty_node false = record { is_branch = false; height = 0; parts = []; fills = [] }
+empty_node true = record { is_branch = true; height = 1; parts = []; fills = [] }
 
 -- each key with its value, as a list of its own
 abbrev pub single_rows : {K V : Type 0} → List K → List V → List (List (K × V))
@@ -42,15 +48,25 @@ height_of true cs = height_over cs
 abbrev pub subtree_of : {K V : Type 0} → Bool → List K → List V → List (Subtree K V) → Subtree K V
 subtree_of b ks vs cs = record { is_branch = b; height = height_of b cs; parts = parts_of b ks vs cs; fills = map fill_of cs }
 
--- each of these subtrees is this high, counted from 1
-abbrev pub AllHigh : {K V : Type 0} → ℕ → List (Subtree K V) → Type 0
-AllHigh h [] = Unit {0}
-AllHigh h (c ∷ cs) = (suc c.height ≡ h) × AllHigh h cs
+-- the node has no more rows than full nodes would hold, and where it and those below it are half full, as many as half full ones do
+pub record IsCounted {K V : Type 0} (s : Subtree K V) : Type 0 where
+  pub least : IsFilled false (fill_of s) → half_full ^ suc s.height ≤ length (rows s)
+  pub most : length (rows s) ≤ capacity ^ suc s.height
 
--- a leaf has as many values as keys; the children of a branch are equally high
+-- the node may stand below a branch of this height
+pub record IsChild {K V : Type 0} (h : ℕ) (c : Subtree K V) : Type 0 where
+  pub level : suc c.height ≡ h
+  pub counted : IsCounted c
+
+-- each of these may
+abbrev pub AllChildren : {K V : Type 0} → ℕ → List (Subtree K V) → Type 0
+AllChildren h [] = Unit {0}
+AllChildren h (c ∷ cs) = IsChild h c × AllChildren h cs
+
+-- a leaf has as many values as keys; the children of a branch are equally high, and have the rows that their nodes must hold
 abbrev pub IsOfKind : {K V : Type 0} → Bool → List K → List V → List (Subtree K V) → Type 0
 IsOfKind false ks vs cs = (cs ≡ []) × (length ks ≡ length vs)
-IsOfKind true ks vs cs = (vs ≡ []) × AllHigh (height_over cs) cs
+IsOfKind true ks vs cs = (vs ≡ []) × AllChildren (height_over cs) cs
 
 -- the keys are the first ones below each entry, so none is empty
 pub record IsNode {K V : Type 0} (b : Bool) (ks : List K) (vs : List V) (cs : List (Subtree K V)) : Type 0 where
@@ -64,9 +80,9 @@ pub record HasRoom (most_entries : ℕ) (b : Bool) (entries keys_room values_roo
   pub values_fit : b ≡ false → most_entries ≤ values_room
   pub children_fit : b ≡ true → most_entries ≤ children_room
 
-most_le : {K V A : Type 0} (μ : Box (Subtree K V) A → ℕ) → ((b : Box (Subtree K V) A) → μ b ≤ suc b.value.height) → (h : ℕ) (bs : List (Box (Subtree K V) A)) → AllHigh h (unboxed bs) → most μ bs ≤ h
+most_le : {K V A : Type 0} (μ : Box (Subtree K V) A → ℕ) → ((b : Box (Subtree K V) A) → μ b ≤ suc b.value.height) → (h : ℕ) (bs : List (Box (Subtree K V) A)) → AllChildren h (unboxed bs) → most μ bs ≤ h
 most_le μ by h [] a = omega arith
-most_le μ by h (b ∷ bs) a = let e = most_le μ by h bs a.1 in let f = a.0 in omega (arith, by b)
+most_le μ by h (b ∷ bs) a = let e = most_le μ by h bs a.1 in let f = a.0.level in omega (arith, by b)
 
 pub most_le-height : {K V A : Type 0} (μ : Box (Subtree K V) A → ℕ) → ((b : Box (Subtree K V) A) → μ b ≤ suc b.value.height) → (k : Bool) (ks : List K) (vs : List V) (bs : List (Box (Subtree K V) A)) → IsOfKind k ks vs (unboxed bs) → max (most μ bs) 0 ≤ height_of k (unboxed bs)
 most_le-height μ by k ks vs [] h = omega arith

@@ -1,5 +1,12 @@
 -- The shape of the nodes below a node, and when they are filled: at least half full, but for those on the right edge.
-use Rattle.std.specs.Prelude.{◌≡◌, ℕ, zero, suc, ◌≤◌, List, [], ◌∷◌, Bool, false}
+use Rattle.std.specs.Prelude.{◌≡◌, ℕ, zero, suc, ◌≤◌, List, [], ◌∷◌, drop, Bool, false}
+
+-- the most entries of a node, and the least of one that isn't on the right edge
+abbrev pub capacity : ℕ
+capacity = 32
+
+abbrev pub half_full : ℕ
+half_full = 16
 
 -- the children of a node: of the first one its entries and the nodes below it, and then the others
 pub data Shape : Type 0 where
@@ -21,18 +28,22 @@ abbrev pub edge_before : Shape → Bool → Bool
 edge_before childless edge = edge
 edge_before (child n below others) edge = false
 
--- each node has at least 16 entries, but for those on the right edge; `edge` says that the parent is there
+-- each node is at least half full, but for those on the right edge; `edge` says that the parent is there
 abbrev pub AreFilled : Shape → Bool → Type 0
 AreFilled childless edge = Unit {0}
-AreFilled (child n below others) edge = (edge_before others edge ≡ false → 16 ≤ n) × AreFilled below (edge_before others edge) × AreFilled others edge
+AreFilled (child n below others) edge = (edge_before others edge ≡ false → half_full ≤ n) × AreFilled below (edge_before others edge) × AreFilled others edge
 
 -- the children are filled
 abbrev pub AllFilled : Bool → List Fill → Type 0
 AllFilled edge fs = AreFilled (shape_of fs) edge
 
--- a node has at least 16 entries, unless it is on the right edge, and the nodes below it are filled
+-- whether the child at i is on the right edge
+abbrev pub edge_at : Bool → List Fill → ℕ → Bool
+edge_at edge fs i = edge_before (shape_of (drop (suc i) fs)) edge
+
+-- a node is at least half full, unless it is on the right edge, and the nodes below it are filled
 pub record IsFilled (edge : Bool) (f : Fill) : Type 0 where
-  pub half : edge ≡ false → 16 ≤ f.entries
+  pub half : edge ≡ false → half_full ≤ f.entries
   pub below : AreFilled f.below edge
 
 -- the node with one more entry

@@ -1,7 +1,7 @@
 //! A node of a tree.
 ghost use Rattle.std.specs.Prelude.{◌≡◌, ◌+◌, ◌-◌, ◌<◌, ◌≤◌, ◌==◌, [], ◌∷◌, ◌++◌, IfOk, Some, true, false, suc, length, insert, remove, take, drop, slice_index_or};
 ghost use Rattle.tf_btree.specs.Subtree.{Subtree, rows};
-ghost use Rattle.tf_btree.specs.Node.{first_key};
+ghost use Rattle.tf_btree.specs.Node.{first_key, empty_node, IsCounted};
 
 mod edit;
 mod find;
@@ -18,6 +18,9 @@ use std::marker::Model;
 
 /// The most entries of a node: rows of a leaf, children of a branch.
 pub(crate) const CAPACITY: usize = 32;
+
+/// The least entries of a node that isn't on the right edge.
+pub(crate) const HALF: usize = CAPACITY / 2;
 
 /// A leaf with rows, or a branch with children.
 ///
@@ -45,8 +48,10 @@ impl<K, V, A: Allocator> Model for Node<K, V, A> {
 
     ghost view = { λ a. subtree_of a.is_branch a.keys.items a.values.items (unboxed a.children.items) };
 
+    ghost use Rattle.tf_btree.specs.Shape.{capacity};
+
     ghost invariant = { λ a. IsNode a.is_branch a.keys.items a.values.items (unboxed a.children.items)
-        × HasRoom 32 a.is_branch (length a.keys.items) a.keys.cap a.values.cap a.children.cap };
+        × HasRoom capacity a.is_branch (length a.keys.items) a.keys.cap a.values.cap a.children.cap };
 
     ghost size = { λ s. s.height };
 
@@ -60,7 +65,7 @@ impl<K: Copy, V: Copy, A: Allocator> Node<K, V, A> {
     pub(crate) fn new_leaf(alloc: A) -> Result<Self, AllocError>
     where
         A: Clone,
-        ensures { IfOk result (λ n. n ≡ record { is_branch = false; height = 0; parts = []; fills = [] }) }
+        ensures { IfOk result (λ n. n ≡ empty_node false) }
     {
         let keys = Vec::with_capacity(alloc.clone()?, CAPACITY)?;
         let values = Vec::with_capacity(alloc.clone()?, CAPACITY)?;
@@ -77,7 +82,7 @@ impl<K: Copy, V: Copy, A: Allocator> Node<K, V, A> {
     pub(crate) fn new_branch(alloc: A) -> Result<Self, AllocError>
     where
         A: Clone,
-        ensures { IfOk result (λ n. n ≡ record { is_branch = true; height = 1; parts = []; fills = [] }) }
+        ensures { IfOk result (λ n. n ≡ empty_node true) }
     {
         let keys = Vec::with_capacity(alloc.clone()?, CAPACITY)?;
         let values = Vec::new(alloc.clone()?);
@@ -109,10 +114,11 @@ impl<K: Copy, V: Copy, A: Allocator> Node<K, V, A> {
         self.is_branch
     }
 
-    /// The first key.
+    /// The first key. Its contract also says how many rows any node has.
     pub(crate) fn first(&self) -> K
         requires { 0 < length self.now.parts }
-        ensures { first_key (rows self.now) ≡ Some result }
+        ensures key { first_key (rows self.now) ≡ Some result }
+        ensures counted { IsCounted self.now }
     {
         self.keys[0]
     }

@@ -44,15 +44,23 @@ fn answers_as_an_ordered_map_over_mixed_calls(rt: HostRuntime) -> Result<(), Fai
 fn rising_keys_are_found_from_any_key_on(rt: HostRuntime) -> Result<(), Fail> {
     let mut tree = Tree::new_in(rt.alloc());
     assert!(rt; tree.is_empty());
+    assert_eq!(rt; tree.height(), 0);
     for key in 0..2000u32 {
         assert_eq!(rt; tree.insert(key, u64::from(key))?, None);
     }
     assert_eq!(rt; tree.len(), 2000);
+    // There are 62 full leaves of 32 rows and a last one, so two branches and a root over them.
+    assert_eq!(rt; tree.height(), 3);
     let first = tree.seek(&777).next().ok_or("no row")?;
     assert_eq!(rt; *first.0, 777);
     assert!(rt; tree.seek(&2000).next().is_none());
+    for key in 1..2000u32 {
+        assert_eq!(rt; tree.remove(&key), Some(u64::from(key)));
+    }
+    assert_eq!(rt; tree.height(), 1);
     tree.clear();
     assert!(rt; tree.is_empty());
+    assert_eq!(rt; tree.height(), 0);
     assert!(rt; tree.rows().next().is_none());
     Ok(())
 }

@@ -1,5 +1,5 @@
 //! The tree.
-ghost use Rattle.std.specs.Prelude.{◌≡◌, ◌+◌, [], length, reverse, None, IsTrue, ◌↔◌, IfOk, IfErr, OnOk, OnErr};
+ghost use Rattle.std.specs.Prelude.{◌≡◌, ◌+◌, ◌-◌, ◌^◌, ◌<◌, ◌≤◌, [], length, reverse, None, IsTrue, ◌↔◌, IfOk, IfErr, OnOk, OnErr};
 ghost use Rattle.std.specs.Option.{option_copied};
 ghost use Rattle.tf_btree.specs.Rows.{IsRising, rows_from, rows_upto, value_at, with_row, without_row};
 
@@ -15,10 +15,11 @@ use tf_records::Refusal;
 /// A map from keys to values in the order of the keys, as a B-tree of boxed nodes on an allocator.
 ///
 /// A contract sees a tree as the list of its rows, a key with its value, in key order. A look-up, an insert and a
-/// removal take a number of steps that grows with the logarithm of the rows.
+/// removal go once down the levels of nodes, of which `height` tells how many there are.
 ///
 /// Every node is at least half full, but for those on the right edge: the root, its last child, the last child of that
-/// one, and so on. There a split leaves the first part full, since the newest keys are often the greatest.
+/// one, and so on. A root that is a branch has two children at least. On the right edge a split for a row behind all
+/// others leaves the first part full, since the newest keys are often the greatest.
 #[derive(Drop)]
 pub struct Tree<K: Copy + Ord, V: Copy, A: Allocator> {
     root: Option<Box<Node<K, V, A>, A>>,
@@ -58,6 +59,23 @@ impl<K: Copy + Ord, V: Copy, A: Allocator> Tree<K, V, A> {
         self.len
     }
 
+    /// The number of levels of nodes, which is how many nodes a look-up reads: 0 without rows, 1 where one leaf has all.
+    ///
+    /// It takes as many steps. It grows with the logarithm of the rows: a tree of two levels or more has more rows than
+    /// 16 to the power of the levels below its root.
+    pub fn height(&self) -> usize
+        ensures none { (result ≡ 0) ↔ (self.now ≡ []) }
+        ensures least { 1 < result → 16 ^ (result - 1) < length self.now }
+        ensures most { length self.now ≤ 32 ^ result }
+    {
+        // The proof needs that the number of rows fits its type, which `len` says.
+        let _ = self.len();
+        match &self.root {
+            None => 0,
+            Some(root) => root.levels(),
+        }
+    }
+
     /// Whether there is no row.
     pub fn is_empty(&self) -> bool
         ensures { IsTrue result ↔ (self.now ≡ []) }
@@ -85,8 +103,8 @@ impl<K: Copy + Ord, V: Copy, A: Allocator> Tree<K, V, A> {
 
     /// Puts the row of `key` in, over the one that is there, and gives the value that was there.
     ///
-    /// For want of memory an `Err` hands both back, and then no row changes: every node that is needed is made before.
-    /// Where the key is there it takes no memory.
+    /// For want of memory an `Err` hands both back, and then no row and no node changes: every node that is needed is
+    /// made before. Where the key is there it takes no memory.
     pub fn insert(&mut self, key: K, value: V) -> Result<Option<V>, (K, V)>
     where
         A: Clone,

@@ -1,10 +1,10 @@
 //! Edits of one node, seen as the list of its entries.
 ghost use Rattle.std.specs.Prelude.{◌≡◌, ◌+◌, ◌-◌, ◌<◌, ◌≤◌, ◌==◌, [], ◌∷◌, ◌++◌, true, false, suc, length, insert, remove, take, drop, slice_index_or};
 ghost use Rattle.tf_btree.specs.Subtree.{Subtree, rows, fill_of};
-ghost use Rattle.tf_btree.specs.Node.{first_key};
+ghost use Rattle.tf_btree.specs.Node.{empty_node};
 
-use super::Node;
 use super::runs::{copy_tail, move_all, move_tail, put};
+use super::{CAPACITY, Node};
 use std::alloc::Allocator;
 
 impl<K: Copy, V: Copy, A: Allocator> Node<K, V, A> {
@@ -12,7 +12,7 @@ impl<K: Copy, V: Copy, A: Allocator> Node<K, V, A> {
     pub(super) fn insert_row(&mut self, at: usize, key: K, value: V)
         requires leaf { self.old.is_branch ≡ false }
         requires in_bounds { at ≤ length self.old.parts }
-        requires room { length self.old.parts < 32 }
+        requires room { length self.old.parts < CAPACITY }
         ensures { self.new ≡ record self.old { parts = insert self.old.parts at ((key, value) ∷ []) } }
     {
         put(&mut self.keys, at, key);
@@ -23,7 +23,7 @@ impl<K: Copy, V: Copy, A: Allocator> Node<K, V, A> {
     pub(super) fn insert_child(&mut self, at: usize, child: Box<Node<K, V, A>, A>)
         requires branch { self.old.is_branch ≡ true }
         requires in_bounds { at ≤ length self.old.parts }
-        requires room { length self.old.parts < 32 }
+        requires room { length self.old.parts < CAPACITY }
         requires some { 0 < length child.value.parts }
         requires level { 0 < length self.old.parts → self.old.height ≡ suc child.value.height }
         ensures { self.new ≡ record { is_branch = true; height = suc child.value.height; parts = insert self.old.parts at (rows child.value); fills = insert self.old.fills at (fill_of child.value) } }
@@ -79,8 +79,7 @@ impl<K: Copy, V: Copy, A: Allocator> Node<K, V, A> {
     /// Moves the entries from `at` on to `right`, which is an empty node of the same kind.
     pub(super) fn split_off(&mut self, at: usize, right: &mut Node<K, V, A>)
         requires in_bounds { at ≤ length self.old.parts }
-        requires kind { right.old.is_branch ≡ self.old.is_branch }
-        requires empty { right.old.parts ≡ [] }
+        requires empty { right.old ≡ empty_node self.old.is_branch }
         ensures left_kind { self.new.is_branch ≡ self.old.is_branch }
         ensures right_kind { right.new.is_branch ≡ self.old.is_branch }
         ensures left { self.new.parts ≡ take at self.old.parts }
@@ -105,7 +104,7 @@ impl<K: Copy, V: Copy, A: Allocator> Node<K, V, A> {
     /// Moves the entries of `right` to the end, where there is room for them.
     pub(super) fn append(&mut self, right: &mut Node<K, V, A>)
         requires kind { right.old.is_branch ≡ self.old.is_branch }
-        requires room { length self.old.parts + length right.old.parts ≤ 32 }
+        requires room { length self.old.parts + length right.old.parts ≤ CAPACITY }
         requires level { self.old.height ≡ right.old.height }
         requires some { 0 < length self.old.parts }
         requires right_some { 0 < length right.old.parts }

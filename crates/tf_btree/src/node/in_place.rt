@@ -1,5 +1,5 @@
 //! Inserts that change one leaf alone.
-ghost use Rattle.std.specs.Prelude.{◌≡◌, ◌<◌, [], ◌∷◌, Bool, length, false, IfSome, is_some, if◌then◌else◌};
+ghost use Rattle.std.specs.Prelude.{◌≡◌, ◌<◌, ◌≤◌, [], ◌∷◌, Bool, length, false, IfSome, IfNone};
 ghost use Rattle.tf_btree.specs.Shape.{IsFilled};
 ghost use Rattle.tf_btree.specs.Subtree.{Subtree, rows, fill_of};
 ghost use Rattle.tf_btree.specs.Node.{first_key};
@@ -17,10 +17,12 @@ impl<K: Copy + Ord, V: Copy, A: Allocator> Node<K, V, A> {
         requires leaf { self.old.is_branch ≡ false }
         requires rising { IsRising K.cmp (rows self.old) }
         requires some { 0 < length self.old.parts }
-        ensures all { rows self.new ≡ (if is_some result then with_row K.cmp key.now value.now (rows self.old) else rows self.old) }
+        ensures all { IfSome result (λ _. rows self.new ≡ with_row K.cmp key.now value.now (rows self.old)) }
         ensures value { IfSome result (λ old. old ≡ value_at K.cmp key.now (rows self.old)) }
+        ensures kept { IfNone result (self.new ≡ self.old) }
         ensures first { first_key (rows self.new) ≡ first_key (rows self.old) }
         ensures level { KeepsLevel self.old self.new }
+        ensures entries { length self.old.parts ≤ length self.new.parts }
         ensures filled { (edge : Bool) → IsFilled edge (fill_of self.old) → IsFilled edge (fill_of self.new) }
     {
         // The proof needs the node's invariant, which is known where a field is used.
@@ -49,10 +51,12 @@ impl<K: Copy + Ord, V: Copy, A: Allocator> Node<K, V, A> {
     pub(crate) fn insert_in_place(&mut self, key: &K, value: &V) -> Option<Option<V>>
         requires rising { IsRising K.cmp (rows self.old) }
         requires some { 0 < length self.old.parts }
-        ensures all { rows self.new ≡ (if is_some result then with_row K.cmp key.now value.now (rows self.old) else rows self.old) }
+        ensures all { IfSome result (λ _. rows self.new ≡ with_row K.cmp key.now value.now (rows self.old)) }
         ensures value { IfSome result (λ old. old ≡ value_at K.cmp key.now (rows self.old)) }
+        ensures kept { IfNone result (self.new ≡ self.old) }
         ensures first { first_key (rows self.new) ≡ first_key (rows self.old) }
         ensures level { KeepsLevel self.old self.new }
+        ensures entries { length self.old.parts ≤ length self.new.parts }
         ensures filled { (edge : Bool) → IsFilled edge (fill_of self.old) → IsFilled edge (fill_of self.new) }
     {
         if !self.is_branch() {
@@ -60,6 +64,9 @@ impl<K: Copy + Ord, V: Copy, A: Allocator> Node<K, V, A> {
         }
         let at = self.find_child(key);
         let child: &mut Node<K, V, A> = &mut self.children[at];
-        child.insert_in_place(key, value)
+        let replaced = child.insert_in_place(key, value);
+        // The proof needs the child's invariant, which is known where a field is used.
+        let _ = &child.is_branch;
+        replaced
     }
 }

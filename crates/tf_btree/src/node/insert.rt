@@ -1,26 +1,53 @@
 //! Inserts into a node.
-ghost use Rattle.std.specs.Prelude.{◌≡◌, ◌+◌, ◌<◌, ◌≤◌, [], ◌∷◌, ◌++◌, length, insert, take, drop, suc, slice_index_or, slice_set, true, false, IsSome, IfSome, None, IfOk, OnErr, is_ok, if◌then◌else◌};
-ghost use Rattle.tf_btree.specs.Shape.{AllFilled, Fill, IsFilled};
+ghost use Rattle.std.specs.Prelude.{◌≡◌, ◌+◌, ◌<◌, ◌≤◌, [], ◌∷◌, ◌++◌, length, insert, take, drop, suc, slice_index_or, slice_set, true, false, IsSome, IfSome, IfNone, None, OnErr};
+ghost use Rattle.tf_btree.specs.Shape.{AllFilled, Fill, IsFilled, edge_at};
 ghost use Rattle.tf_btree.specs.Subtree.{Subtree, joined, rows, fill_of};
-ghost use Rattle.tf_btree.specs.Rows.{IsRising, value_at, with_row};
+ghost use Rattle.tf_btree.specs.Rows.{IsRising};
 ghost use Rattle.tf_btree.specs.Place.{IsGap};
-ghost use Rattle.tf_btree.specs.Inserted.{KeepsLevel, IsBeside, IsSplitOf, IsFilledWith, rows_behind, fills_behind};
+ghost use Rattle.tf_btree.specs.Node.{empty_node};
+ghost use Rattle.tf_btree.specs.Inserted.{IsInsert, IsParted, IsSplitOf, IsFilledWith, rows_behind, fills_behind};
 
-use super::{CAPACITY, Node};
+use super::{CAPACITY, HALF, Node};
 use std::alloc::{AllocError, Allocator};
 use std::mem;
 
+/// How a node stands in its tree when a row is put below it.
+#[derive(Clone, Copy)]
+pub(crate) struct Standing {
+    /// No node of its height lies behind it.
+    pub(crate) at_edge: bool,
+    /// Its parent can take the second part where it is split.
+    pub(crate) may_split: bool,
+}
+
+/// How many entries a full node keeps where it is split for one more at `at`.
+///
+/// They are half of them. At the right end of the tree, where that one goes behind all others, they are all.
+fn kept_by_split(at: usize, at_edge: bool) -> usize
+    ensures half { HALF ≤ result }
+    ensures fits { result ≤ CAPACITY }
+    ensures off { at_edge ≡ false → result ≡ HALF }
+    ensures front { at ≤ HALF → result ≡ HALF }
+    ensures back { HALF < at → at ≤ CAPACITY → result ≤ at }
+    ensures end { at_edge ≡ true → at ≡ CAPACITY → result ≡ CAPACITY }
+{
+    if at_edge && at == CAPACITY {
+        CAPACITY
+    } else {
+        HALF
+    }
+}
+
 impl<K: Copy, V: Copy, A: Allocator> Node<K, V, A> {
-    /// An empty node of the same kind, or `None` for want of memory.
-    pub(super) fn spare(&self) -> Option<Box<Node<K, V, A>, A>>
+    /// An empty node on the allocator of this one, or `None` for want of memory.
+    pub(super) fn spare(&self, is_branch: bool) -> Option<Box<Node<K, V, A>, A>>
     where
         A: Clone,
-        ensures kind { IfSome result (λ b. b.value.is_branch ≡ self.now.is_branch) }
-        ensures empty { IfSome result (λ b. b.value.parts ≡ []) }
+        ensures { IfSome result (λ b. b.value ≡ empty_node is_branch) }
     {
         let alloc = self.keys.allocator().clone().ok()?;
         let own = self.keys.allocator().clone().ok()?;
-        let node = if self.is_branch {
+        let node = if is_branch {
             Node::new_branch(own).ok()?
         } else {
             Node::new_leaf(own).ok()?
@@ -51,24 +78,20 @@ impl<K: Copy, V: Copy, A: Allocator> Node<K, V, A> {
         at_edge: bool,
     ) -> Box<Node<K, V, A>, A>
         requires leaf { self.old.is_branch ≡ false }
-        requires full { length self.old.parts ≡ 32 }
-        requires in_bounds { at ≤ 32 }
-        requires right_leaf { right.value.is_branch ≡ false }
-        requires empty { right.value.parts ≡ [] }
+        requires full { length self.old.parts ≡ CAPACITY }
+        requires in_bounds { at ≤ CAPACITY }
+        requires empty { right.value ≡ empty_node false }
         ensures split { IsSplitOf self.old self.new result.value (joined (insert self.old.parts at ((key, value) ∷ []))) }
         ensures filled { IsFilled false (fill_of self.new) }
         ensures right_filled { IsFilled at_edge (fill_of result.value) }
+        ensures kept { at_edge ≡ true → at ≡ CAPACITY → self.new.parts ≡ self.old.parts }
     {
-        let middle = if at_edge && at == CAPACITY {
-            CAPACITY
-        } else {
-            CAPACITY / 2
-        };
-        self.split_off(middle, &mut right);
-        if at <= middle && middle < CAPACITY {
+        let kept = kept_by_split(at, at_edge);
+        self.split_off(kept, &mut right);
+        if at <= HALF {
             self.insert_row(at, key, value);
         } else {
-            right.insert_row(at - middle, key, value);
+            right.insert_row(at - kept, key, value);
         }
         right
     }
@@ -84,26 +107,21 @@ impl<K: Copy, V: Copy, A: Allocator> Node<K, V, A> {
         at_edge: bool,
     ) -> Box<Node<K, V, A>, A>
         requires branch { self.old.is_branch ≡ true }
-        requires full { length self.old.parts ≡ 32 }
-        requires in_bounds { at ≤ 32 }
+        requires full { length self.old.parts ≡ CAPACITY }
+        requires in_bounds { at ≤ CAPACITY }
         requires some { 0 < length child.value.parts }
         requires level { self.old.height ≡ suc child.value.height }
-        requires right_branch { right.value.is_branch ≡ true }
-        requires empty { right.value.parts ≡ [] }
+        requires empty { right.value ≡ empty_node true }
         ensures split { IsSplitOf self.old self.new result.value (joined (insert self.old.parts at (rows child.value))) }
-        ensures filled { AllFilled at_edge (insert self.old.fills at (fill_of child.value)) → IsFilled false (fill_of self.new) }
-        ensures right_filled { AllFilled at_edge (insert self.old.fills at (fill_of child.value)) → IsFilled at_edge (fill_of result.value) }
+        ensures filled { AllFilled at_edge (insert self.old.fills at (fill_of child.value)) → IsFilled false (fill_of self.new) × IsFilled at_edge (fill_of result.value) }
+        ensures kept { at_edge ≡ true → at ≡ CAPACITY → self.new.parts ≡ self.old.parts }
     {
-        let middle = if at_edge && at == CAPACITY {
-            CAPACITY
-        } else {
-            CAPACITY / 2
-        };
-        self.split_off(middle, &mut right);
-        if at <= middle && middle < CAPACITY {
+        let kept = kept_by_split(at, at_edge);
+        self.split_off(kept, &mut right);
+        if at <= HALF {
             self.insert_child(at, child);
         } else {
-            right.insert_child(at - middle, child);
+            right.insert_child(at - kept, child);
         }
         right
     }
@@ -121,14 +139,11 @@ impl<K: Copy, V: Copy, A: Allocator> Node<K, V, A> {
         requires some { 0 < length child.value.parts }
         requires old_some { 0 < length self.old.parts }
         requires level { self.old.height ≡ suc child.value.height }
-        requires room { length self.old.parts ≡ 32 → IsSome spare }
-        requires spare_branch { IfSome spare (λ b. b.value.is_branch ≡ true) }
-        requires spare_empty { IfSome spare (λ b. b.value.parts ≡ []) }
+        requires room { length self.old.parts ≡ CAPACITY → IsSome spare }
+        requires empty { IfSome spare (λ b. b.value ≡ empty_node true) }
         ensures all { rows self.new ++ rows_behind result ≡ joined (insert self.old.parts at (rows child.value)) }
-        ensures behind { IfSome result (λ b. IsBeside self.old b.value) }
-        ensures full { IsSome result → 32 ≤ length self.old.parts }
-        ensures level { KeepsLevel self.old self.new }
-        ensures filled { (at_edge ≡ false → 16 ≤ length self.old.parts) → AllFilled at_edge (insert self.old.fills at (fill_of child.value)) → IsFilledWith at_edge self.new result }
+        ensures parted { IsParted self.old self.new result }
+        ensures filled { (at_edge ≡ false → HALF ≤ length self.old.parts) → AllFilled at_edge (insert self.old.fills at (fill_of child.value)) → IsFilledWith at_edge self.new result }
     {
         if self.len() < CAPACITY {
             self.insert_child(at, child);
@@ -148,18 +163,16 @@ impl<K: Copy, V: Copy, A: Allocator> Node<K, V, A> {
     ) -> Option<Box<Node<K, V, A>, A>>
         requires branch { self.old.is_branch ≡ true }
         requires in_range { at < length self.old.parts }
-        requires fits { length self.old.parts ≤ 32 }
+        requires fits { length self.old.parts ≤ CAPACITY }
         requires some { IfSome split (λ b. 0 < length b.value.parts) }
         requires level { IfSome split (λ b. self.old.height ≡ suc b.value.height) }
-        requires room { IsSome split → length self.old.parts ≡ 32 → IsSome spare }
-        requires spare_branch { IfSome spare (λ b. b.value.is_branch ≡ true) }
-        requires spare_empty { IfSome spare (λ b. b.value.parts ≡ []) }
+        requires room { IsSome split → length self.old.parts ≡ CAPACITY → IsSome spare }
+        requires empty { IfSome spare (λ b. b.value ≡ empty_node true) }
         ensures all { rows self.new ++ rows_behind result ≡ joined (insert self.old.parts (at + 1) (rows_behind split)) }
-        ensures behind { IfSome result (λ b. IsBeside self.old b.value) }
+        ensures parted { IsParted self.old self.new result }
         ensures only_split { IsSome result → IsSome split }
-        ensures full { IsSome result → 32 ≤ length self.old.parts }
-        ensures level { KeepsLevel self.old self.new }
-        ensures filled { (at_edge ≡ false → 16 ≤ length self.old.parts) → AllFilled at_edge (take (at + 1) self.old.fills ++ (fills_behind split ++ drop (at + 1) self.old.fills)) → IsFilledWith at_edge self.new result }
+        ensures kept { split ≡ None → (self.new ≡ self.old) × (result ≡ None) }
+        ensures filled { (at_edge ≡ false → HALF ≤ length self.old.parts) → AllFilled at_edge (take (at + 1) self.old.fills ++ (fills_behind split ++ drop (at + 1) self.old.fills)) → IsFilledWith at_edge self.new result }
     {
         match split {
             None => None,
@@ -167,34 +180,53 @@ impl<K: Copy, V: Copy, A: Allocator> Node<K, V, A> {
         }
     }
 
-    /// Whether the child of a branch at `at` may be split where it is full, and the spare node that a split of this one
-    /// needs where both are full. Only then it takes memory.
-    fn room_for_split(&self, at: usize, may_split: bool) -> (bool, Option<Box<Node<K, V, A>, A>>)
+    /// Whether no node of its height lies behind the child at `at` of a branch, where `at_edge` says so of the branch.
+    fn is_child_at_edge(&self, at: usize, at_edge: bool) -> bool
+        requires branch { self.now.is_branch ≡ true }
+        requires in_range { at < length self.now.parts }
+        ensures { result ≡ edge_at at_edge self.now.fills at }
+    {
+        let len = self.len();
+        at_edge && at + 1 == len
+    }
+
+    /// How the child of a branch at `at` stands, and the spare node that a split of this one needs where both are full.
+    /// Only then it takes memory.
+    fn room_for_split(
+        &self,
+        at: usize,
+        standing: Standing,
+    ) -> (Standing, Option<Box<Node<K, V, A>, A>>)
     where
         A: Clone,
         requires branch { self.now.is_branch ≡ true }
         requires in_range { at < length self.now.parts }
-        ensures may { result.0 ≡ true → may_split ≡ true }
-        ensures room { (child : Fill) → result.0 ≡ true → 32 ≤ (slice_index_or self.now.fills at child).entries → length self.now.parts ≡ 32 → IsSome result.1 }
-        ensures spare_branch { IfSome result.1 (λ b. b.value.is_branch ≡ true) }
-        ensures spare_empty { IfSome result.1 (λ b. b.value.parts ≡ []) }
+        ensures edge { result.0.at_edge ≡ edge_at standing.at_edge self.now.fills at }
+        ensures may { result.0.may_split ≡ true → standing.may_split ≡ true }
+        ensures room { (child : Fill) → result.0.may_split ≡ true → CAPACITY ≤ (slice_index_or self.now.fills at child).entries → length self.now.parts ≡ CAPACITY → IsSome result.1 }
+        ensures taken { (child : Fill) → IsSome result.1 → (standing.may_split ≡ true) × (length self.now.parts ≡ CAPACITY) × (CAPACITY ≤ (slice_index_or self.now.fills at child).entries) }
+        ensures empty { IfSome result.1 (λ b. b.value ≡ empty_node true) }
     {
-        if !may_split || self.len() < CAPACITY || self.child(at).len() < CAPACITY {
-            return (may_split, None);
+        let child = Standing {
+            at_edge: self.is_child_at_edge(at, standing.at_edge),
+            may_split: standing.may_split,
+        };
+        if !standing.may_split || self.len() < CAPACITY || self.child(at).len() < CAPACITY {
+            return (child, None);
         }
-        let spare = self.spare();
-        (spare.is_some(), spare)
+        let spare = self.spare(true);
+        let may_split = spare.is_some();
+        (Standing { may_split, ..child }, spare)
     }
 
-    /// Puts a row into a leaf as the entry at `at`, where its key isn't there. A full leaf is split where `may_split`
-    /// says so, and its second part is given.
+    /// Puts a row into a leaf as the entry at `at`, where its key isn't there. A full leaf is split where it may be,
+    /// and its second part is given.
     fn add_row(
         &mut self,
         at: usize,
         key: K,
         value: V,
-        at_edge: bool,
-        may_split: bool,
+        standing: Standing,
     ) -> (Result<Option<V>, AllocError>, Option<Box<Node<K, V, A>, A>>)
     where
         K: Ord,
@@ -202,26 +234,24 @@ impl<K: Copy, V: Copy, A: Allocator> Node<K, V, A> {
         requires leaf { self.old.is_branch ≡ false }
         requires some { 0 < length self.old.parts }
         requires gap { IsGap K.cmp key self.old.parts at }
-        ensures all { rows self.new ++ rows_behind result.1 ≡ (if is_ok result.0 then with_row K.cmp key value (rows self.old) else rows self.old) }
-        ensures value { IfOk result.0 (λ old. old ≡ None) }
-        ensures behind { IfSome result.1 (λ b. IsBeside self.old b.value) }
-        ensures may { IsSome result.1 → may_split ≡ true }
-        ensures full { IsSome result.1 → 32 ≤ length self.old.parts }
-        ensures level { KeepsLevel self.old self.new }
-        ensures filled { IsFilled at_edge (fill_of self.old) → IsFilledWith at_edge self.new result.1 }
+        ensures rows { IsInsert K.cmp key value (rows self.old) result.0 (rows self.new ++ rows_behind result.1) }
+        ensures kept { OnErr result.0 ((self.new ≡ self.old) × (result.1 ≡ None)) }
+        ensures may { IsSome result.1 → standing.may_split ≡ true }
+        ensures parted { IsParted self.old self.new result.1 }
+        ensures filled { IsFilled standing.at_edge (fill_of self.old) → IsFilledWith standing.at_edge self.new result.1 }
     {
         if self.len() < CAPACITY {
             self.insert_row(at, key, value);
             return (Ok(None), None);
         }
-        if !may_split {
+        if !standing.may_split {
             return (Err(AllocError), None);
         }
-        match self.spare() {
+        match self.spare(false) {
             None => (Err(AllocError), None),
             Some(right) => (
                 Ok(None),
-                Some(self.split_with_row(right, at, key, value, at_edge)),
+                Some(self.split_with_row(right, at, key, value, standing.at_edge)),
             ),
         }
     }
@@ -231,8 +261,7 @@ impl<K: Copy, V: Copy, A: Allocator> Node<K, V, A> {
         &mut self,
         key: K,
         value: V,
-        at_edge: bool,
-        may_split: bool,
+        standing: Standing,
     ) -> (Result<Option<V>, AllocError>, Option<Box<Node<K, V, A>, A>>)
     where
         K: Ord,
@@ -240,56 +269,47 @@ impl<K: Copy, V: Copy, A: Allocator> Node<K, V, A> {
         requires leaf { self.old.is_branch ≡ false }
         requires rising { IsRising K.cmp (rows self.old) }
         requires some { 0 < length self.old.parts }
-        ensures all { rows self.new ++ rows_behind result.1 ≡ (if is_ok result.0 then with_row K.cmp key value (rows self.old) else rows self.old) }
-        ensures value { IfOk result.0 (λ old. old ≡ value_at K.cmp key (rows self.old)) }
-        ensures absent { OnErr result.0 (value_at K.cmp key (rows self.old) ≡ None) }
-        ensures behind { IfSome result.1 (λ b. IsBeside self.old b.value) }
-        ensures may { IsSome result.1 → may_split ≡ true }
-        ensures full { IsSome result.1 → 32 ≤ length self.old.parts }
-        ensures level { KeepsLevel self.old self.new }
-        ensures filled { IsFilled at_edge (fill_of self.old) → IsFilledWith at_edge self.new result.1 }
+        ensures rows { IsInsert K.cmp key value (rows self.old) result.0 (rows self.new ++ rows_behind result.1) }
+        ensures kept { OnErr result.0 ((self.new ≡ self.old) × (result.1 ≡ None)) }
+        ensures may { IsSome result.1 → standing.may_split ≡ true }
+        ensures parted { IsParted self.old self.new result.1 }
+        ensures filled { IsFilled standing.at_edge (fill_of self.old) → IsFilledWith standing.at_edge self.new result.1 }
     {
         match self.find_row(&key) {
             Ok(at) => (Ok(Some(self.replace_row(at, key, value))), None),
-            Err(at) => self.add_row(at, key, value, at_edge, may_split),
+            Err(at) => self.add_row(at, key, value, standing),
         }
     }
 
     /// Puts the row of `key` below this node, over the one that is there.
     ///
-    /// It gives the value that was there, and the second part where the node was split. A full leaf is split only where
-    /// `may_split` says that its parent can take the second part. `at_edge` says that no node of this height lies behind
-    /// this one. It takes memory for new nodes alone, before anything changes; an `Err` leaves the rows as they were.
+    /// It gives the value that was there, and the second part where the node was split, which is only where it was full.
+    /// It takes memory for new nodes alone, before anything changes; an `Err` leaves every node as it was.
     pub(crate) fn insert(
         &mut self,
         key: K,
         value: V,
-        at_edge: bool,
-        may_split: bool,
+        standing: Standing,
     ) -> (Result<Option<V>, AllocError>, Option<Box<Node<K, V, A>, A>>)
     where
         K: Ord,
         A: Clone,
         requires rising { IsRising K.cmp (rows self.old) }
         requires some { 0 < length self.old.parts }
-        ensures all { rows self.new ++ rows_behind result.1 ≡ (if is_ok result.0 then with_row K.cmp key value (rows self.old) else rows self.old) }
-        ensures value { IfOk result.0 (λ old. old ≡ value_at K.cmp key (rows self.old)) }
-        ensures absent { OnErr result.0 (value_at K.cmp key (rows self.old) ≡ None) }
-        ensures behind { IfSome result.1 (λ b. IsBeside self.old b.value) }
-        ensures may { IsSome result.1 → may_split ≡ true }
-        ensures full { IsSome result.1 → 32 ≤ length self.old.parts }
-        ensures level { KeepsLevel self.old self.new }
-        ensures filled { IsFilled at_edge (fill_of self.old) → IsFilledWith at_edge self.new result.1 }
+        ensures rows { IsInsert K.cmp key value (rows self.old) result.0 (rows self.new ++ rows_behind result.1) }
+        ensures kept { OnErr result.0 ((self.new ≡ self.old) × (result.1 ≡ None)) }
+        ensures may { IsSome result.1 → standing.may_split ≡ true }
+        ensures parted { IsParted self.old self.new result.1 }
+        ensures filled { IsFilled standing.at_edge (fill_of self.old) → IsFilledWith standing.at_edge self.new result.1 }
     {
         if !self.is_branch() {
-            return self.insert_into_leaf(key, value, at_edge, may_split);
+            return self.insert_into_leaf(key, value, standing);
         }
         let at = self.find_child(&key);
-        let len = self.len();
-        let (may_split_child, spare) = self.room_for_split(at, may_split);
+        let (child_standing, spare) = self.room_for_split(at, standing);
         let child: &mut Node<K, V, A> = &mut self.children[at];
-        let (done, split) = child.insert(key, value, at_edge && at + 1 == len, may_split_child);
+        let (done, split) = child.insert(key, value, child_standing);
         self.keys[at] = child.first();
-        (done, self.settle(at, split, spare, at_edge))
+        (done, self.settle(at, split, spare, standing.at_edge))
     }
 }

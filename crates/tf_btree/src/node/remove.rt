@@ -5,7 +5,7 @@ ghost use Rattle.tf_btree.specs.Subtree.{Subtree, rows, fill_of};
 ghost use Rattle.tf_btree.specs.Rows.{IsRising, value_at, without_row};
 ghost use Rattle.tf_btree.specs.Inserted.{KeepsLevel};
 
-use super::{CAPACITY, Node};
+use super::{CAPACITY, HALF, Node};
 use std::alloc::Allocator;
 
 impl<K: Copy, V: Copy, A: Allocator> Node<K, V, A> {
@@ -15,7 +15,7 @@ impl<K: Copy, V: Copy, A: Allocator> Node<K, V, A> {
         requires level { second.old.height ≡ self.old.height }
         requires some { 0 < length self.old.parts }
         requires more { 1 < length second.old.parts }
-        requires room { length self.old.parts < 32 }
+        requires room { length self.old.parts < CAPACITY }
         ensures all { rows self.new ++ rows second.new ≡ rows self.old ++ rows second.old }
         ensures level { KeepsLevel self.old self.new }
         ensures second_level { KeepsLevel second.old second.new }
@@ -39,7 +39,7 @@ impl<K: Copy, V: Copy, A: Allocator> Node<K, V, A> {
         requires level { second.old.height ≡ self.old.height }
         requires more { 1 < length self.old.parts }
         requires some { 0 < length second.old.parts }
-        requires room { length second.old.parts < 32 }
+        requires room { length second.old.parts < CAPACITY }
         ensures all { rows self.new ++ rows second.new ≡ rows self.old ++ rows second.old }
         ensures level { KeepsLevel self.old self.new }
         ensures second_level { KeepsLevel second.old second.new }
@@ -68,7 +68,7 @@ impl<K: Copy, V: Copy, A: Allocator> Node<K, V, A> {
         ensures filled { (edge : Bool) → (edge ≡ false → 1 < length self.old.parts) → AllFilled edge (one_more_at at self.old.fills) → AllFilled edge self.new.fills }
     {
         let len = self.len();
-        if at >= len || len < 2 || self.child(at).len() >= CAPACITY / 2 {
+        if at >= len || len < 2 || self.child(at).len() >= HALF {
             return;
         }
         let left = if at == 0 { 0 } else { at - 1 };
@@ -79,7 +79,7 @@ impl<K: Copy, V: Copy, A: Allocator> Node<K, V, A> {
     fn mend_pair(&mut self, left: usize)
         requires branch { self.old.is_branch ≡ true }
         requires in_range { left + 1 < length self.old.parts }
-        requires fits { length self.old.parts ≤ 32 }
+        requires fits { length self.old.parts ≤ CAPACITY }
         ensures all { rows self.new ≡ rows self.old }
         ensures fewer { length self.old.parts ≤ length self.new.parts + 1 }
         ensures level { KeepsLevel self.old self.new }

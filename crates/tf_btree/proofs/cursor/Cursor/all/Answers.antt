@@ -12,4 +12,4 @@ pub returns-in-Some : goal.returns-in-Some
 returns-in-Some g c =
     let rising = rw c.in-Some.is at c.requires.rising in
     let facts = run_behind _ g.met.K.Ord.total _ _ _ _ _ _ c.run_from-run.ensures.all rising in
-    rw c.in-Some.is (sym facts.0 ∙ from_first _ g.met.K.Ord.total _ _ rising c.first-first.ensures)
+    rw c.in-Some.is (sym facts.0 ∙ from_first _ g.met.K.Ord.total _ _ rising c.first-first.ensures.key)

@@ -1,16 +1,16 @@
-use Rattle.std.proofs.Common.{rules, ◌≡◌, suc, ◌<◌, ◌≤◌, remove, true, false, Some, length, refl, sym, ◌∙◌, ap, subst, arith}
+use Rattle.std.proofs.Common.{rules, ◌≡◌, suc, Bool, remove, true, Some, length, refl, sym, ◌∙◌, ap, subst, arith}
 use Rattle.std.proofs.lemmas.List.{nil_from_length, length-set}
 use Rattle.std.proofs.lemmas.List.Edits.{length-remove}
 use Rattle.std.specs.Box.{with_value}
-use Rattle.tf_btree.specs.Shape.{AllFilled, one_more_at}
+use Rattle.tf_btree.specs.Shape.{IsFilled, one_more, edge_at}
 use Rattle.tf_btree.specs.Subtree.{joined, rows, fill_of}
-use Rattle.tf_btree.specs.Rows.{IsRising, value_at, without_row}
+use Rattle.tf_btree.specs.Rows.{IsRising, value_at}
 use Rattle.tf_btree.proofs.Entries.{same_kind, same_parts, same_fills, length-seen, room_after}
 use Rattle.tf_btree.proofs.Placed.{value_below, rising_entry, value_gap, value_found}
 use Rattle.tf_btree.proofs.Parts.{joined-set, joined-remove}
 use Rattle.tf_btree.proofs.Edited.{without_row_at, without_row_gap, without_row_child, entry_value}
-use Rattle.tf_btree.proofs.Filled.{edge_at, IsFilled-more, filled_more, filled_fewer, filled_fewer_than, filled_short, filled_without, empty_edge}
-use Rattle.tf_btree.proofs.Children.{child_at, child_put, child_gone, child_filled, room_set}
+use Rattle.tf_btree.proofs.Filled.{IsFilled-more, filled_more, filled_fewer, filled_fewer_than, filled_short, filled_without, empty_edge}
+use Rattle.tf_btree.proofs.Children.{IsLeft, child_at, child_put, child_gone, child_filled, room_set}
 use Rattle.tf_btree.proofs.node.Node.+remove.Goals as goal
 use Rattle.tf_btree.proofs.node.Node.+remove.Goals.{then-len-eq0, else-len-eq0}
 
@@ -65,53 +65,8 @@ invariant_of-self-else-len-eq0 g t c =
     let some = c.if-len-eq0.false in
     let long = c.len.ensures.value in
     let level = child.level ∙ ap suc (sym (c.remove-removed.ensures.level (omega arith))) in
-    let put = child_put _ _ _ _ _ _ _ _ branch c.self.invariant.0 c.self.view_is c.find_child-at.ensures.in_range c.first-first.ensures level in
+    let put = child_put _ _ _ _ _ _ _ _ branch c.self.invariant.0 c.self.view_is c.find_child-at.ensures.in_range c.first-first.ensures.key level c.first-first.ensures.counted in
     (put.node, room_set _ _ _ _ _ _ _ _ c.self.invariant.1)
-
-pub returns-clause-rows : goal.returns-clause-rows
-returns-clause-rows g t c =
-    let branch : c.self.inside.is_branch ≡ true = same_kind c.self.view_is ∙ sym c.is_branch.ensures ∙ c.if-not-is_branch.false in
-    let child = child_at _ _ _ _ _ _ _ _ branch c.self.invariant.0 c.self.view_is c.find_child-at.ensures.in_range c.index_mut.ensures.value c.deref_mut-child.ensures.value in
-    let less = without_row_child _ _ _ _ _ _ c.find_child-at.ensures child.entry c.remove-removed.ensures.rows in
-    let here : rows c.if-len-eq0.self ≡ without_row g.K.Ord.cmp c.args.key.now (rows c.args.self.now) =
-    elim c.if-len-eq0.branch [
-      | then-len-eq0 w ↦
-          let gone = child_gone _ _ _ _ _ _ _ _ (with_value c.index_mut.result.now c.remove-removed.new.self) branch c.self.invariant.0 c.self.view_is w.remove.ensures.items w.remove-then-len-eq0.ensures.items in
-          let none = nil_from_length c.remove-removed.new.self.parts (sym c.len.ensures.value ∙ w.if-len-eq0.true) in
-          rw (w.self-is, gone.parts) (joined-remove c.args.self.now.parts c.find_child-at.result ∙ rw none at less)
-      | else-len-eq0 w ↦
-          let some = w.if-len-eq0.false in
-          let long = c.len.ensures.value in
-          let level = child.level ∙ ap suc (sym (c.remove-removed.ensures.level (omega arith))) in
-          let put = child_put _ _ _ _ _ _ _ (with_value c.index_mut.result.now c.remove-removed.new.self) branch c.self.invariant.0 c.self.view_is c.find_child-at.ensures.in_range w.first-first.ensures level in
-          rw (w.self-is, put.parts) (joined-set c.args.self.now.parts c.find_child-at.result (rows c.remove-removed.new.self) c.find_child-at.ensures.in_range ∙ less)
-    ] in
-    c.mend.ensures.all ∙ here
-
-pub returns-clause-value : goal.returns-clause-value
-returns-clause-value g t c =
-    let branch : c.self.inside.is_branch ≡ true = same_kind c.self.view_is ∙ sym c.is_branch.ensures ∙ c.if-not-is_branch.false in
-    let child = child_at _ _ _ _ _ _ _ _ branch c.self.invariant.0 c.self.view_is c.find_child-at.ensures.in_range c.index_mut.ensures.value c.deref_mut-child.ensures.value in
-    c.remove-removed.ensures.value ∙ sym (value_below _ _ _ _ c.find_child-at.ensures ∙ ap (λ r. value_at g.K.Ord.cmp c.args.key.now r) child.entry)
-
-pub returns-clause-level : goal.returns-clause-level
-returns-clause-level g t c = λ some.
-    let branch : c.self.inside.is_branch ≡ true = same_kind c.self.view_is ∙ sym c.is_branch.ensures ∙ c.if-not-is_branch.false in
-    let child = child_at _ _ _ _ _ _ _ _ branch c.self.invariant.0 c.self.view_is c.find_child-at.ensures.in_range c.index_mut.ensures.value c.deref_mut-child.ensures.value in
-    let entries = c.mend.ensures.entries some in
-    let here : c.if-len-eq0.self.height ≡ c.args.self.now.height =
-    elim c.if-len-eq0.branch [
-      | then-len-eq0 w ↦
-          let gone = child_gone _ _ _ _ _ _ _ _ (with_value c.index_mut.result.now c.remove-removed.new.self) branch c.self.invariant.0 c.self.view_is w.remove.ensures.items w.remove-then-len-eq0.ensures.items in
-          rw w.self-is (gone.height (rw w.self-is at entries))
-      | else-len-eq0 w ↦
-          let some = w.if-len-eq0.false in
-          let long = c.len.ensures.value in
-          let level = child.level ∙ ap suc (sym (c.remove-removed.ensures.level (omega arith))) in
-          let put = child_put _ _ _ _ _ _ _ (with_value c.index_mut.result.now c.remove-removed.new.self) branch c.self.invariant.0 c.self.view_is c.find_child-at.ensures.in_range w.first-first.ensures level in
-          rw w.self-is put.height
-    ] in
-    c.mend.ensures.level ∙ here
 
 pub returns-in-Ok-clause-filled : goal.returns-in-Ok-clause-filled
 returns-in-Ok-clause-filled g t c = λ edge old.
@@ -123,32 +78,52 @@ returns-in-Ok-clause-filled g t c = λ edge old.
 pub returns-in-Err-clause-filled : goal.returns-in-Err-clause-filled
 returns-in-Err-clause-filled g t c = λ edge old. IsFilled-more edge (fill_of c.args.self.now) old
 
-pub returns-clause-filled : goal.returns-clause-filled
-returns-clause-filled g t c = λ edge old.
+pub returns : goal.returns
+returns g t c =
     let branch : c.self.inside.is_branch ≡ true = same_kind c.self.view_is ∙ sym c.is_branch.ensures ∙ c.if-not-is_branch.false in
     let child = child_at _ _ _ _ _ _ _ _ branch c.self.invariant.0 c.self.view_is c.find_child-at.ensures.in_range c.index_mut.ensures.value c.deref_mut-child.ensures.value in
-    let done = c.remove-removed.ensures.filled (edge_at edge c.args.self.now.fills c.find_child-at.result) (child_filled edge _ c.args.self.now c.find_child-at.result c.deref_mut-child.result.now child refl old.below) in
-    let here : AllFilled edge (one_more_at c.find_child-at.result c.if-len-eq0.self.fills) × (edge ≡ false → 1 < length c.if-len-eq0.self.parts) × (edge ≡ false → 16 ≤ length c.if-len-eq0.self.parts) =
+    let at = c.find_child-at.ensures in
+    let new = c.remove-removed.new.self in
+    let less = without_row_child _ _ _ _ _ _ at child.entry c.remove-removed.ensures.rows in
+    let done : (edge : Bool) → IsFilled edge (fill_of c.args.self.now) → IsFilled (edge_at edge c.args.self.now.fills c.find_child-at.result) (one_more (fill_of new)) =
+    λ edge old. c.remove-removed.ensures.filled (edge_at edge c.args.self.now.fills c.find_child-at.result) (child_filled edge _ c.args.self.now c.find_child-at.result c.deref_mut-child.result.now child refl old.below) in
+    let here : IsLeft g.K.Ord.cmp c.args.key.now c.find_child-at.result c.args.self.now c.if-len-eq0.self =
     elim c.if-len-eq0.branch [
       | then-len-eq0 w ↦
-          let gone = child_gone _ _ _ _ _ _ _ _ (with_value c.index_mut.result.now c.remove-removed.new.self) branch c.self.invariant.0 c.self.view_is w.remove.ensures.items w.remove-then-len-eq0.ensures.items in
+          let gone = child_gone _ _ _ _ _ _ _ _ (with_value c.index_mut.result.now new) branch c.self.invariant.0 c.self.view_is w.remove.ensures.items w.remove-then-len-eq0.ensures.items in
           let empty = sym c.len.ensures.value ∙ w.if-len-eq0.true in
-          let off = empty_edge edge c.args.self.now.fills c.find_child-at.result (fill_of c.remove-removed.new.self) done empty in
-          rw (w.self-is, gone.fills) (
-            filled_more edge c.find_child-at.result (remove c.args.self.now.fills c.find_child-at.result) (filled_without edge c.args.self.now.fills c.find_child-at.result (fill_of c.remove-removed.new.self) child.within old.below done empty),
-            λ e. absurd (off e),
-            λ e. absurd (off e),
-          )
+          let none = nil_from_length new.parts empty in
+          rw w.self-is record {
+            rows = rw gone.parts (joined-remove c.args.self.now.parts c.find_child-at.result ∙ rw none at less);
+            height = gone.height;
+            filled = λ edge old.
+                let off = empty_edge edge c.args.self.now.fills c.find_child-at.result (fill_of new) (done edge old) empty in
+                rw gone.fills (
+                  filled_more edge c.find_child-at.result (remove c.args.self.now.fills c.find_child-at.result) (filled_without edge c.args.self.now.fills c.find_child-at.result (fill_of new) child.within old.below (done edge old) empty),
+                  λ e. absurd (off e),
+                );
+          }
       | else-len-eq0 w ↦
           let some = w.if-len-eq0.false in
           let long = c.len.ensures.value in
           let level = child.level ∙ ap suc (sym (c.remove-removed.ensures.level (omega arith))) in
-          let put = child_put _ _ _ _ _ _ _ (with_value c.index_mut.result.now c.remove-removed.new.self) branch c.self.invariant.0 c.self.view_is c.find_child-at.ensures.in_range w.first-first.ensures level in
-          let same = length-set c.args.self.now.parts c.find_child-at.result (rows c.remove-removed.new.self) in
-          rw (w.self-is, put.fills, put.parts) (
-            filled_short edge c.args.self.now.fills c.find_child-at.result (fill_of c.remove-removed.new.self) child.within old.below done,
-            λ e. let n = old.half e in omega arith,
-            λ e. let n = old.half e in omega arith,
-          )
+          let put = child_put _ _ _ _ _ _ _ (with_value c.index_mut.result.now new) branch c.self.invariant.0 c.self.view_is at.in_range w.first-first.ensures.key level w.first-first.ensures.counted in
+          let same = length-set c.args.self.now.parts c.find_child-at.result (rows new) in
+          rw w.self-is record {
+            rows = rw put.parts (joined-set c.args.self.now.parts c.find_child-at.result (rows new) at.in_range ∙ less);
+            height = λ more. put.height;
+            filled = λ edge old. rw (put.fills, put.parts) (
+              filled_short edge c.args.self.now.fills c.find_child-at.result (fill_of new) child.within old.below (done edge old),
+              λ e. let n = old.half e in omega arith,
+            );
+          }
     ] in
-    filled_fewer_than edge c.mend.new.self (c.mend.ensures.filled edge here.1 here.0) (λ e. let n = here.2 e in omega (arith, c.mend.ensures.fewer))
+    record {
+      rows = c.mend.ensures.all ∙ here.rows;
+      value = c.remove-removed.ensures.value ∙ sym (value_below _ _ _ _ at ∙ ap (λ r. value_at g.K.Ord.cmp c.args.key.now r) child.entry);
+      kind = c.mend.ensures.kind ∙ sym (sym (same_kind c.self.view_is) ∙ branch);
+      level = λ some. c.mend.ensures.level ∙ here.height (c.mend.ensures.entries some);
+      filled = λ edge old.
+          let left = here.filled edge old in
+          filled_fewer_than edge c.mend.new.self (c.mend.ensures.filled edge (λ e. let n = left.1 e in omega arith) left.0) (λ e. let n = left.1 e in omega (arith, c.mend.ensures.fewer));
+    }

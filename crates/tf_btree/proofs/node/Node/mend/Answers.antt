@@ -3,7 +3,7 @@ use Rattle.tf_btree.specs.Shape.{Fill, AllFilled, one_more_at}
 use Rattle.tf_btree.specs.Subtree.{fill_of}
 use Rattle.tf_btree.proofs.Filled.{filled_beyond, filled_few, filled_enough, pair_from_first, pair_from_second}
 use Rattle.tf_btree.proofs.node.Node.mend.Goals as goal
-use Rattle.tf_btree.proofs.node.Node.mend.Goals.{then-at-len-via-then-at-len, then-at-len-via-else-at-len+then-len-lt2, then-at-len-via-else-at-len+else-len-lt2+then-len, then-at-eq0, else-at-eq0}
+use Rattle.tf_btree.proofs.node.Node.mend.Goals.{then-at-len-via-then-at-len, then-at-len-via-else-at-len+then-len-lt2, then-at-len-via-else-at-len+else-len-lt2+then-len-ge-HALF, then-at-eq0, else-at-eq0}
 
 pub returns-then-at-len-clause-filled : goal.returns-then-at-len-clause-filled
 returns-then-at-len-clause-filled g c = λ edge more h.
@@ -12,9 +12,9 @@ returns-then-at-len-clause-filled g c = λ edge more h.
     elim c.then-at-len.branch [
       | then-at-len-via-then-at-len w ↦ let le = w.if-at-len.true in filled_beyond edge c.args.at c.args.self.now.fills (omega arith) h
       | then-at-len-via-else-at-len+then-len-lt2 w ↦ let lt = w.if-len-lt2.true in filled_few edge c.args.at c.args.self.now.fills (λ off. let n = more off in omega arith) (omega arith) h
-      | then-at-len-via-else-at-len+else-len-lt2+then-len w ↦
+      | then-at-len-via-else-at-len+else-len-lt2+then-len-ge-HALF w ↦
           let lt = w.if-at-len.false in
-          let half = w.if-len.true in
+          let half = w.if-len-ge-HALF.true in
           let own = w.len.ensures.value in
           let fill = ap (λ (f : Fill). f.entries) w.child.ensures.fill in
           filled_enough edge c.args.at c.args.self.now.fills (fill_of w.child.result.now) (omega arith) (omega arith) h

@@ -3,7 +3,7 @@ use Rattle.std.proofs.lemmas.List.Edits.{length-remove}
 use Rattle.tf_btree.specs.Subtree.{fill_of}
 use Rattle.tf_btree.specs.Node.{unbox, unboxed, first_key}
 use Rattle.tf_btree.proofs.Runs.{map-remove}
-use Rattle.tf_btree.proofs.Entries.{same_kind, same_height, length-seen, room_after, branch_remove_node, branch_remove_parts, length-fills, child_entry, child_fill, child_height, entry_first, some_parts}
+use Rattle.tf_btree.proofs.Entries.{same_kind, same_height, length-seen, room_after, branch_remove_node, branch_remove_parts, child_entry, child_fill, child_height, entry_first, some_parts}
 use Rattle.tf_btree.proofs.node.Node.remove_child.Goals as goal
 
 pub invariant_of-self : goal.invariant_of-self
@@ -45,9 +45,6 @@ returns-clause-fill g c =
     let branch = same_kind c.self.view_is ∙ c.requires.branch in
     let long = length-seen _ _ _ _ _ c.self.invariant.0 c.self.view_is in
     rw (← c.self.view_is) (child_fill _ _ _ _ _ _ branch c.self.invariant.0 (omega arith) c.remove-2.ensures.value _)
-
-pub returns-clause-fills : goal.returns-clause-fills
-returns-clause-fills g c = length-fills _ _ _ _ _ c.self.invariant.0 c.self.view_is c.requires.branch
 
 pub returns-clause-rest_fills : goal.returns-clause-rest_fills
 returns-clause-rest_fills g c =

@@ -3,7 +3,7 @@ use Rattle.std.proofs.lemmas.List.{length-take, length-drop, take-map, drop-map}
 use Rattle.tf_btree.specs.Subtree.{fill_of}
 use Rattle.tf_btree.specs.Node.{unbox, unboxed}
 use Rattle.tf_btree.proofs.Runs.{take_none, drop_none}
-use Rattle.tf_btree.proofs.Entries.{same_kind, room_after, leaf_same, branch_same, leaf_take_node, leaf_drop_node, leaf_take_parts, leaf_drop_parts, branch_take_node, branch_drop_node, branch_take_parts, branch_drop_parts, branch_drop_height, leaf_fills, length-fills}
+use Rattle.tf_btree.proofs.Entries.{same_kind, empty_kind, room_after, leaf_same, branch_same, leaf_take_node, leaf_drop_node, leaf_take_parts, leaf_drop_parts, branch_take_node, branch_drop_node, branch_take_parts, branch_drop_parts, branch_drop_height, leaf_fills, length-fills}
 use Rattle.tf_btree.proofs.node.Node.split_off.Goals as goal
 
 pub invariant_of-self : goal.invariant_of-self
@@ -17,7 +17,7 @@ invariant_of-self g c =
 pub invariant_of-right : goal.invariant_of-right
 invariant_of-right g c =
     let short = length-drop c.args.at c.self.inside.keys.items in
-    let branch = same_kind c.right.view_is ∙ c.requires.kind ∙ sym (same_kind c.self.view_is) ∙ c.if-self.true in
+    let branch = same_kind c.right.view_is ∙ empty_kind _ _ c.requires.empty ∙ sym (same_kind c.self.view_is) ∙ c.if-self.true in
     let right = branch_same _ _ _ _ branch c.right.invariant.0 in
     rw (c.copy_tail.ensures.back, c.move_tail.ensures.back, ← drop-map unbox c.args.at c.self.inside.children.items) (
       branch_drop_node _ _ _ _ _ _ _ c.if-self.true c.self.invariant.0 branch right.0,
@@ -35,7 +35,7 @@ invariant_of-self-else-self g c =
 pub invariant_of-right-else-self : goal.invariant_of-right-else-self
 invariant_of-right-else-self g c =
     let short = length-drop c.args.at c.self.inside.keys.items in
-    let leaf = same_kind c.right.view_is ∙ c.requires.kind ∙ sym (same_kind c.self.view_is) ∙ c.if-self.false in
+    let leaf = same_kind c.right.view_is ∙ empty_kind _ _ c.requires.empty ∙ sym (same_kind c.self.view_is) ∙ c.if-self.false in
     let right = leaf_same _ _ _ _ leaf c.right.invariant.0 in
     rw (c.copy_tail.ensures.back, c.copy_tail-else-self.ensures.back) (
       leaf_drop_node _ _ _ _ _ _ _ c.if-self.false c.self.invariant.0 leaf right.0,
@@ -48,12 +48,12 @@ returns-then-self-clause-left g c =
 
 pub returns-then-self-clause-right : goal.returns-then-self-clause-right
 returns-then-self-clause-right g c =
-    let branch = same_kind c.right.view_is ∙ c.requires.kind ∙ sym (same_kind c.self.view_is) ∙ c.if-self.true in
+    let branch = same_kind c.right.view_is ∙ empty_kind _ _ c.requires.empty ∙ sym (same_kind c.self.view_is) ∙ c.if-self.true in
     rw (c.move_tail.ensures.back, ← drop-map unbox c.args.at c.self.inside.children.items, ← c.self.view_is) (branch_drop_parts _ _ _ _ _ _ _ _ c.if-self.true branch)
 
 pub returns-then-self-clause-right_level : goal.returns-then-self-clause-right_level
 returns-then-self-clause-right_level g c =
-    let branch = same_kind c.right.view_is ∙ c.requires.kind ∙ sym (same_kind c.self.view_is) ∙ c.if-self.true in
+    let branch = same_kind c.right.view_is ∙ empty_kind _ _ c.requires.empty ∙ sym (same_kind c.self.view_is) ∙ c.if-self.true in
     rw (c.move_tail.ensures.back, ← drop-map unbox c.args.at c.self.inside.children.items, ← c.self.view_is) (branch_drop_height _ _ _ _ _ _ c.if-self.true c.self.invariant.0 branch)
 
 pub returns-else-self-clause-left : goal.returns-else-self-clause-left
@@ -62,7 +62,7 @@ returns-else-self-clause-left g c =
 
 pub returns-else-self-clause-right : goal.returns-else-self-clause-right
 returns-else-self-clause-right g c =
-    let leaf = same_kind c.right.view_is ∙ c.requires.kind ∙ sym (same_kind c.self.view_is) ∙ c.if-self.false in
+    let leaf = same_kind c.right.view_is ∙ empty_kind _ _ c.requires.empty ∙ sym (same_kind c.self.view_is) ∙ c.if-self.false in
     rw (c.copy_tail.ensures.back, c.copy_tail-else-self.ensures.back, ← c.self.view_is) (leaf_drop_parts _ _ _ _ _ _ _ c.if-self.false leaf)
 
 pub returns-then-self-clause-left_fills : goal.returns-then-self-clause-left_fills
@@ -86,7 +86,7 @@ returns-else-self-clause-left_fills g c =
 
 pub returns-else-self-clause-right_fills : goal.returns-else-self-clause-right_fills
 returns-else-self-clause-right_fills g c =
-    let leaf = same_kind c.right.view_is ∙ c.requires.kind ∙ sym (same_kind c.self.view_is) ∙ c.if-self.false in
+    let leaf = same_kind c.right.view_is ∙ empty_kind _ _ c.requires.empty ∙ sym (same_kind c.self.view_is) ∙ c.if-self.false in
     let none = leaf_same _ _ _ _ c.if-self.false c.self.invariant.0 in
     let right = leaf_same _ _ _ _ leaf c.right.invariant.0 in
     rw (← c.self.view_is) (drop_none c.args.at _ _ (ap (map fill_of) none.0) (ap (map fill_of) right.0))

@@ -28,9 +28,3 @@ returns-then-is_branch-clause-filled g c = λ edge a b.
     let moved = first_moved edge c.args.self.now.fills c.args.second.now.fills c.len-end.result (fill_of c.remove_child-child.result.value) many (omega (arith, c.remove_child-child.ensures.fills)) c.remove_child-child.ensures.fill a b in
     let put = same_fills c.insert_child.ensures in
     rw (put, c.remove_child-child.ensures.rest_fills) moved
-
-pub returns-else-is_branch-clause-filled : goal.returns-else-is_branch-clause-filled
-returns-else-is_branch-clause-filled g c = λ edge a b.
-    let put = same_fills c.insert_row.ensures in
-    let gone = same_fills c.remove_row-key.ensures.rest in
-    rw (put, gone) (a, b)

@@ -5,9 +5,9 @@ use Rattle.tf_btree.proofs.tree.Tree.remove.Goals as goal
 pub invariant_of-self : goal.invariant_of-self
 invariant_of-self g c =
     let old = c.remove_at_root-removed.ensures in
-    tree_without _ g.met.K.Ord.total _ _ _ _ _ c.self.invariant old.all old.some old.filled (counted_row _ g.met.K.Ord.total _ _ _ _ c.self.invariant old.value (sym c.is_some.ensures ∙ c.if-is_some.true))
+    tree_without _ g.met.K.Ord.total _ _ _ _ _ c.self.invariant old.all old.root (counted_row _ g.met.K.Ord.total _ _ _ _ c.self.invariant old.value (sym c.is_some.ensures ∙ c.if-is_some.true))
 
 pub invariant_of-self-else-is_some : goal.invariant_of-self-else-is_some
 invariant_of-self-else-is_some g c =
     let old = c.remove_at_root-removed.ensures in
-    tree_without _ g.met.K.Ord.total _ _ _ _ _ c.self.invariant old.all old.some old.filled (count_left _ _ _ old.value (sym c.is_some.ensures ∙ c.if-is_some.false))
+    tree_without _ g.met.K.Ord.total _ _ _ _ _ c.self.invariant old.all old.root (count_left _ _ _ old.value (sym c.is_some.ensures ∙ c.if-is_some.false))
