@@ -13,16 +13,16 @@ use Rattle.tf_btree.specs.Rows.{AllAfter, IsRising, rows_below, rows_above, with
 use Rattle.tf_table.specs.Content.{first_some, first_at, overlaid, combined, values_of, rows_with, value_only}
 use Rattle.tf_table.proofs.Rising.{AllBefore, AllAfter-before, equal_from, less_from, greater_from, less_back, greater_back, value_at-here, value_at-there, value_at-after, value_at-append, is_lt-not}
 
-first_some-none : {X : Type 0} (x : Option X) → first_some x None ≡ x
+pub first_some-none : {X : Type 0} (x : Option X) → first_some x None ≡ x
 first_some-none None = refl
 first_some-none (Some x) = refl
 
-ordering_cases : {P : Type 0} (x : Ordering) → (x ≡ Less → P) → (x ≡ Equal → P) → (x ≡ Greater → P) → P
+pub ordering_cases : {P : Type 0} (x : Ordering) → (x ≡ Less → P) → (x ≡ Equal → P) → (x ≡ Greater → P) → P
 ordering_cases Less l e g = l refl
 ordering_cases Equal l e g = e refl
 ordering_cases Greater l e g = g refl
 
-bool_cases : {P : Type 0} (b : Bool) → (b ≡ true → P) → (b ≡ false → P) → P
+pub bool_cases : {P : Type 0} (b : Bool) → (b ≡ true → P) → (b ≡ false → P) → P
 bool_cases true t f = t refl
 bool_cases false t f = f refl
 
@@ -72,7 +72,7 @@ module _ {K E : Type 0} (cmp : K → K → Ordering) (o : IsTotalOrder cmp) (exa
       ih ∙ cond-false (f q) _ _ fq ∙ sym (cond-false (f q) _ _ fq)
   filter_step f q r rows false false fb et ih = ih ∙ ap (λ v. cond (f q) v None) (sym (value_at-there cmp o q r rows et))
 
-  value_at-filter : (f : K → Bool) (q : K) (rows : List (K × E)) → value_at cmp q (filter (λ (s : K × E). f s.0) rows) ≡ cond (f q) (value_at cmp q rows) None
+  pub value_at-filter : (f : K → Bool) (q : K) (rows : List (K × E)) → value_at cmp q (filter (λ (s : K × E). f s.0) rows) ≡ cond (f q) (value_at cmp q rows) None
   value_at-filter f q [] = bool_cases (f q) (λ t. sym (cond-true (f q) _ _ t)) (λ n. sym (cond-false (f q) _ _ n))
   value_at-filter f q (r ∷ rows) = filter_step f q r rows (f r.0) (is_eq (cmp r.0 q)) refl refl (value_at-filter f q rows)
 
@@ -110,7 +110,7 @@ module _ {K E : Type 0} (cmp : K → K → Ordering) (o : IsTotalOrder cmp) (exa
   AllAfter-filter f k [] a = tt
   AllAfter-filter f k (r ∷ rows) a = filter_cases f r (filter f rows) (AllAfter cmp k) (λ _. (a.0, AllAfter-filter f k rows a.1)) (λ _. AllAfter-filter f k rows a.1)
 
-  IsRising-filter : (f : K × E → Bool) (rows : List (K × E)) → IsRising cmp rows → IsRising cmp (filter f rows)
+  pub IsRising-filter : (f : K × E → Bool) (rows : List (K × E)) → IsRising cmp rows → IsRising cmp (filter f rows)
   IsRising-filter f [] rising = tt
   IsRising-filter f (r ∷ rows) rising = filter_cases f r (filter f rows) (IsRising cmp) (λ _. (AllAfter-filter f r.0 rows rising.0, IsRising-filter f rows rising.1)) (λ _. IsRising-filter f rows rising.1)
 
@@ -140,12 +140,12 @@ module _ {K E : Type 0} (cmp : K → K → Ordering) (o : IsTotalOrder cmp) (exa
   overlaid_cases q r newer older true e ih = cond-true (is_eq (cmp r.0 q)) _ _ e ∙ sym (ap (λ (w : Option E). first_some w (value_at cmp q older)) (value_at-here cmp o q r newer e))
   overlaid_cases q r newer older false e ih = cond-false (is_eq (cmp r.0 q)) _ _ e ∙ ih ∙ sym (ap (λ (w : Option E). first_some w (value_at cmp q older)) (value_at-there cmp o q r newer e))
 
-  value_at-overlaid : (q : K) (newer older : List (K × E)) → value_at cmp q (overlaid cmp newer older) ≡ first_some (value_at cmp q newer) (value_at cmp q older)
+  pub value_at-overlaid : (q : K) (newer older : List (K × E)) → value_at cmp q (overlaid cmp newer older) ≡ first_some (value_at cmp q newer) (value_at cmp q older)
   value_at-overlaid q [] older = refl
   value_at-overlaid q (r ∷ newer) older =
       value_at-with_row r.0 r.1 q (overlaid cmp newer older) ∙ overlaid_cases q r newer older (is_eq (cmp r.0 q)) refl (value_at-overlaid q newer older)
 
-  IsRising-overlaid : (newer older : List (K × E)) → IsRising cmp older → IsRising cmp (overlaid cmp newer older)
+  pub IsRising-overlaid : (newer older : List (K × E)) → IsRising cmp older → IsRising cmp (overlaid cmp newer older)
   IsRising-overlaid [] older rising = rising
   IsRising-overlaid (r ∷ newer) older rising = IsRising-with_row r.0 r.1 (overlaid cmp newer older) (IsRising-overlaid newer older rising)
 

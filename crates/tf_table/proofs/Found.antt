@@ -5,6 +5,7 @@ use Rattle.tf_btree.specs.Rows.{rows_from, rows_upto}
 use Rattle.std.proofs.lemmas.List.{get_or_default}
 use Rattle.tf_table.specs.declared.key.Key.{Key}
 use Rattle.tf_table.specs.declared.entries.Entries.{Entries}
+use Rattle.tf_table.specs.declared.span.Span.{Span}
 use Rattle.tf_table.specs.Entries.{entries_of}
 use Rattle.tf_table.specs.Key.{key_cmp}
 use Rattle.tf_table.specs.Rows.{rows_of, IsLaidOut}
@@ -14,7 +15,7 @@ use Rattle.tf_table.proofs.LaidOut.{length-rows_of, row_there, key_there}
 use Rattle.tf_table.proofs.Rising.{AllBefore}
 use Rattle.tf_table.proofs.Places.{before_all, value_at-place, value_at-missing, value_at-end, value_at-under, value_at-over, rows_from-place, rows_upto-place}
 
-module _ {V A : Type 0} (least greatest : Key) (ks : List Key) (es : Entries V A) (laid : IsLaidOut least greatest ks es) where
+module _ {V A : Type 0} {span : Option Span} (least greatest : Key) (ks : List Key) (es : Entries V A) (laid : IsLaidOut least greatest span ks es) where
   pub length-laid : length (rows_of ks es) ≡ length ks
   length-laid = length-rows_of ks es laid.paired
 

@@ -4,8 +4,12 @@ pub mod Found
 pub mod Keys
 pub mod LaidOut
 pub mod Least
+pub mod Logged
 pub mod Merged
 pub mod Places
 pub mod Rising
+pub mod Sorting
 pub mod Spans
+pub mod Times
 pub mod Walks
+pub mod Within

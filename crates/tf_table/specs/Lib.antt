@@ -1,5 +1,7 @@
 pub mod Key
 pub mod Entries
+pub mod Span
 pub mod Rows
 pub mod Content
 pub mod Merge
+pub mod Mutable

@@ -1,11 +1,13 @@
 -- How a table lays out its rows: the keys in one run, the entries in another form.
-use Rattle.std.specs.Prelude.{◌≡◌, ℕ, ◌-◌, ◌<◌, ◌≤◌, List, Option, length, slice_index_or}
+use Rattle.std.specs.Prelude.{◌≡◌, ℕ, ◌-◌, ◌<◌, ◌≤◌, List, Option, length, map, slice_index_or}
 use Rattle.std.specs.List.{zip}
 use Rattle.tf_btree.specs.Rows.{IsRising}
 use Rattle.tf_table.specs.declared.key.Key.{Key}
 use Rattle.tf_table.specs.declared.entries.Entries.{Entries}
+use Rattle.tf_table.specs.declared.span.Span.{Span}
 use Rattle.tf_table.specs.Entries.{entries_of, HasRoomFor}
 use Rattle.tf_table.specs.Key.{key_cmp}
+use Rattle.tf_table.specs.Span.{HasSpan}
 
 -- each key with its entry
 abbrev pub rows_of : {V A : Type 0} → List Key → Entries V A → List (Key × Option V)
@@ -19,9 +21,10 @@ IsPaired keys entries = length (entries_of (length keys) entries) ≡ length key
 abbrev pub IsRoomy : {V A : Type 0} → ℕ → ℕ → Entries V A → Type 0
 IsRoomy room keys_room entries = (room ≤ keys_room) × HasRoomFor room entries
 
--- the keys rise, and the least and the greatest stand apart too
-pub record IsLaidOut {V A : Type 0} (least greatest : Key) (keys : List Key) (entries : Entries V A) : Type 0 where
+-- the keys rise, and the least, the greatest and the span of the timestamps stand apart too
+pub record IsLaidOut {V A : Type 0} (least greatest : Key) (span : Option Span) (keys : List Key) (entries : Entries V A) : Type 0 where
   pub paired : IsPaired keys entries
   pub rising : IsRising key_cmp (rows_of keys entries)
   pub first : 0 < length keys → least ≡ slice_index_or keys 0 least
   pub last : 0 < length keys → greatest ≡ slice_index_or keys (length keys - 1) greatest
+  pub times : HasSpan span (map (λ key. key.timestamp) keys)

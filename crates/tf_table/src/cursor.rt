@@ -1,11 +1,11 @@
 //! A walk over some rows of a table.
-ghost use Rattle.std.specs.Prelude.{◌≡◌, ◌-◌, ◌≤◌, take, drop};
+ghost use Rattle.std.specs.Prelude.{◌≡◌, ◌-◌, ◌≤◌, take, drop, length};
 ghost use Rattle.std.specs.Iterator.{YieldsFirstBy, YieldsLastBy, item_count};
 ghost use Rattle.tf_btree.specs.Rows.{rows_from, rows_upto};
 ghost use Rattle.tf_table.specs.Key.{key_cmp};
 ghost use Rattle.tf_table.specs.Merge.{seen};
 
-use crate::search::{count_below, count_upto};
+use crate::search::{Start, count_below, count_upto, part};
 use crate::{Key, Row, Sealed};
 use std::alloc::Allocator;
 use std::marker::Model;
@@ -38,7 +38,7 @@ impl<V, A: Allocator> Sealed<V, A> {
     {
         Cursor {
             table: self,
-            from: count_below(&self.keys, key),
+            from: count_below(&self.keys, key, Start::Middle),
             to: self.len(),
         }
     }
@@ -50,8 +50,60 @@ impl<V, A: Allocator> Sealed<V, A> {
         Cursor {
             table: self,
             from: 0,
-            to: count_upto(&self.keys, key),
+            to: count_upto(&self.keys, key, Start::Middle),
         }
+    }
+
+    /// The rows whose keys are neither below `from` nor above `to`. It takes no memory.
+    pub fn range(&self, from: &Key, to: &Key) -> Cursor<'_, V, A>
+        ensures { result ≡ rows_upto key_cmp to.now (rows_from key_cmp from.now self.now) }
+    {
+        let mut rows = self.seek(from);
+        rows.seek_back(to);
+        rows
+    }
+}
+
+impl<V, A: Allocator> Sealed<V, A> {
+    /// Of the rows from one place up to another the first that isn't below `key`, looked for from their front.
+    fn first_from(&self, from: usize, to: usize, key: &Key) -> usize
+        requires ordered { from ≤ to }
+        requires within { to ≤ length self.now }
+        ensures within { (from ≤ result) × (result ≤ to) }
+        ensures rows { take (to - result) (drop result self.now) ≡ rows_from key_cmp key.now (take (to - from) (drop from self.now)) }
+    {
+        from + count_below(part(&self.keys, from, to), key, Start::Front)
+    }
+
+    /// The place behind the last of them that isn't above `key`, looked for from their back.
+    fn last_upto(&self, from: usize, to: usize, key: &Key) -> usize
+        requires ordered { from ≤ to }
+        requires within { to ≤ length self.now }
+        ensures within { (from ≤ result) × (result ≤ to) }
+        ensures rows { take (result - from) (drop from self.now) ≡ rows_upto key_cmp key.now (take (to - from) (drop from self.now)) }
+    {
+        from + count_upto(part(&self.keys, from, to), key, Start::Back)
+    }
+}
+
+impl<'a, V, A: Allocator> Cursor<'a, V, A> {
+    /// Passes over the rows below `key`: of those that are still to come, the rows not below it stay.
+    ///
+    /// It looks ever further from the front, a number of times that grows with the logarithm of the rows passed over,
+    /// and reads keys alone. It takes no memory.
+    pub fn seek(&mut self, key: &Key)
+        ensures { self.new ≡ rows_from key_cmp key.now self.old }
+    {
+        let table = self.table;
+        self.from = table.first_from(self.from, self.to, key);
+    }
+
+    /// The same from the back: of the rows that are still to come, those not above `key` stay.
+    pub fn seek_back(&mut self, key: &Key)
+        ensures { self.new ≡ rows_upto key_cmp key.now self.old }
+    {
+        let table = self.table;
+        self.to = table.last_upto(self.from, self.to, key);
     }
 }
 

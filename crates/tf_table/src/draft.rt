@@ -7,6 +7,7 @@ ghost use Rattle.tf_table.specs.Rows.{rows_of, IsPaired, IsRoomy};
 
 use crate::entries::Entries;
 use crate::front::Front;
+use crate::span::span_of;
 use crate::{Key, Repeats, Sealed};
 use std::alloc::{AllocError, Allocator};
 
@@ -87,9 +88,11 @@ impl<V: Repeats, A: Allocator + Clone> Draft<V, A> {
             Some(key) => *key,
             None => Key::LEAST,
         };
+        let span = span_of(&self.keys);
         Sealed {
             least,
             greatest,
+            span,
             keys: self.keys,
             entries: self.entries,
         }

@@ -1,4 +1,5 @@
-//! Sealed tables: rows that no longer change, sorted by key, and their merge.
+//! Mutable tables, whose rows are put and taken back, and sealed tables, whose rows no longer change and are sorted by
+//! key, with their merge.
 //!
 //! A row is a key with a value, or with a tombstone, which says that the key is absent.
 #![tactic(auto)]
@@ -8,17 +9,23 @@ mod draft;
 mod entries;
 mod front;
 mod key;
+mod log;
 mod merging;
+mod mutable;
 mod pair;
 mod sealed;
 mod sealing;
 mod search;
+mod span;
 #[cfg(test)]
 mod tests;
 
 pub use cursor::Cursor;
 pub use entries::Repeats;
 pub use key::Key;
+pub use log::Log;
 pub use merging::merge;
+pub use mutable::MutableTable;
 pub use sealed::{Row, Sealed};
 pub use sealing::seal;
+pub use span::Span;

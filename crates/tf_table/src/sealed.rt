@@ -5,10 +5,11 @@ ghost use Rattle.tf_btree.specs.Rows.{IsRising};
 ghost use Rattle.tf_table.specs.Key.{key_cmp};
 ghost use Rattle.tf_table.specs.Content.{entry_at};
 ghost use Rattle.tf_table.specs.Merge.{seen};
+ghost use Rattle.tf_table.specs.Span.{HasSpan, timestamps};
 
-use crate::Key;
 use crate::entries::Entries;
-use crate::search::count_below;
+use crate::search::count_below_between;
+use crate::{Key, Span};
 use std::alloc::Allocator;
 use std::marker::Model;
 
@@ -22,6 +23,7 @@ pub type Row<'a, V> = (&'a Key, Option<&'a V>);
 pub struct Sealed<V, A: Allocator> {
     pub(crate) least: Key,
     pub(crate) greatest: Key,
+    pub(crate) span: Option<Span>,
     pub(crate) keys: Vec<Key, A>,
     pub(crate) entries: Entries<V, A>,
 }
@@ -36,7 +38,7 @@ impl<V, A: Allocator> Model for Sealed<V, A> {
 
     ghost view = { λ t. rows_of t.keys.items t.entries };
 
-    ghost invariant = { λ t. IsLaidOut t.least t.greatest t.keys.items t.entries };
+    ghost invariant = { λ t. IsLaidOut t.least t.greatest t.span t.keys.items t.entries };
 }
 
 impl<V, A: Allocator> Sealed<V, A> {
@@ -57,17 +59,26 @@ impl<V, A: Allocator> Sealed<V, A> {
         self.keys.is_empty()
     }
 
+    /// The earliest and the latest timestamp of the rows, tombstones included, or None where there is no row.
+    #[inline]
+    pub fn span(&self) -> Option<Span>
+        ensures { HasSpan result (timestamps self.now) }
+    {
+        self.span
+    }
+
     /// The entry of a key, if the table has the key: its value, or None inside for a tombstone.
     ///
     /// It takes two comparisons for a key that no row can have, by the least and the greatest key of the table, and
-    /// else a number that grows with the logarithm of the rows. No entry is read until the key is found.
+    /// else a number that grows with the logarithm of the rows. Of rows without a value, one before which no timestamp is
+    /// missing takes five. No entry is read until the key is found.
     pub fn find(&self, key: &Key) -> Option<Option<&V>>
         ensures { option_map option_copied result ≡ entry_at key.now self.now }
     {
         if key.cmp(&self.least).is_lt() || self.greatest.cmp(key).is_lt() {
             return None;
         }
-        let place = count_below(&self.keys, key);
+        let place = count_below_between(&self.keys, key, &self.least, &self.greatest);
         if place < self.keys.len() && self.keys[place].cmp(key).is_eq() {
             return Some(self.entries.at(place));
         }

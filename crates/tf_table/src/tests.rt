@@ -2,7 +2,9 @@
 
 mod edges;
 mod many;
+mod mutable;
 mod refusals;
+mod seeks;
 
 use crate::{Key, Sealed, merge, seal};
 use std::alloc::{Allocator, Global};
