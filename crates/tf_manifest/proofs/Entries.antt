@@ -42,13 +42,13 @@ module _ {X : Type 0} (p : X → Bool) where
   find-before [] ys e = e
   find-before (x ∷ xs) ys e = ap (λ o. cond (p x) (Some x) o) (find-before xs ys e)
 
-total : IsTotalOrder key_cmp
+pub total : IsTotalOrder key_cmp
 total = then_total (on_total (λ (k : Key). k.value) nat_cmp_total) (on_total (λ (k : Key). k.timestamp) nat_cmp_total)
 
-exact : CmpEqualImpliesEq key_cmp
+pub exact : CmpEqualImpliesEq key_cmp
 exact a b h = ap (λ (p : ℕ × ℕ). record { value = p.0; timestamp = p.1 }) (exact_pairs nat_cmp nat_cmp exact_unsigned exact_unsigned (a.value, a.timestamp) (b.value, b.timestamp) h)
 
-same_key : (o : Ordering) → is_eq o ≡ true → o ≡ Equal
+pub same_key : (o : Ordering) → is_eq o ≡ true → o ≡ Equal
 same_key Less e = absurd (cc)
 same_key Equal e = refl
 same_key Greater e = absurd (cc)

@@ -4,3 +4,9 @@ pub mod Maps
 pub mod Installs
 pub mod Entries
 pub mod Wholes
+pub mod Examples
+pub mod Members
+pub mod Pairs
+pub mod Journals
+pub mod OneValue
+pub mod Spelled

@@ -1,6 +1,10 @@
 pub mod Table
 pub mod Reference
 pub mod Row
+pub mod RowNames
+pub mod Kinds
+pub mod Rows
+pub mod Shows
 pub mod Run
 pub mod Limit
 pub mod Install

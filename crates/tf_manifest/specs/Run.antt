@@ -1,5 +1,5 @@
 -- Runs of two tables that are merged, what a merge gives, and where it stands afterwards.
-use Rattle.std.specs.Prelude.{◌≡◌, ◌≢◌, ℕ, ◌+◌, ◌<◌, ◌≤◌, ◌==◌, List, [], ◌∷◌, ◌++◌, length, map, filter, slice_get, Option, Some, Bool, true, false}
+use Rattle.std.specs.Prelude.{◌≡◌, ◌≢◌, ℕ, ◌+◌, ◌<◌, ◌≤◌, ◌==◌, List, [], ◌∷◌, ◌++◌, length, map, filter, slice_get, slice_index_or, slice_set, Option, Some, Bool, true, false}
 use Rattle.tf_table.specs.declared.key.Key.{Key}
 use Rattle.tf_table.specs.Key.{key_cmp}
 use Rattle.tf_table.specs.Content.{entry_at, entry_of, content_of, combined, rows_with, kept}
@@ -92,3 +92,9 @@ pub record Installs {V : Type 0} (old : List (Shown V)) (run : Run V) (out : Tab
   pub content : SameContent old new
   pub weighs : weight new ≡ weight old
   pub one_less : length new + 1 ≡ length old
+
+-- one of several rows has a merged table in the place of its run, and the others are as they were
+pub record InstallsAt {V : Type 0} (old : List (List (Shown V))) (at : ℕ) (out : Output V) (new : List (List (Shown V))) : Type 0 where
+  pub tables : List (Shown V)
+  pub is : new ≡ slice_set old at tables
+  pub installs : Installs (slice_index_or old at []) out.run out.table tables

@@ -7,25 +7,37 @@
 mod body;
 mod install;
 mod job;
+mod kind;
+mod kind_rows;
+mod kinds;
+mod laws;
 mod naming;
 mod picking;
 mod place;
 mod pushes;
 mod reference;
 mod registry;
+mod row;
 mod slots;
 mod tables;
 #[cfg(test)]
 mod tests;
 mod uninstalled;
+mod value;
 mod whole;
 
 pub use body::Body;
 pub use job::{RowJob, RowMerged};
+pub use kind::{Kind, StampRow, UnitRow};
+pub use kind_rows::KindRows;
+pub use kinds::Stored;
+pub use laws::{rows_are_maps, rows_show_one_journal, rows_spell_their_journal};
 pub use naming::{Naming, RowValue};
 pub use pushes::Pushes;
 pub use registry::Registry;
+pub use row::{Row, rows_are_these};
 pub use slots::TableRef;
 pub use tables::Tables;
 pub use uninstalled::RowUninstalled;
+pub use value::{IdStamp, State, Value};
 pub use whole::WholeRow;

@@ -1,7 +1,9 @@
 //! What ties the tables of all rows to their registries.
-ghost use Rattle.std.specs.Prelude.{ℕ, []};
+ghost use Rattle.std.specs.Prelude.{◌≡◌, ℕ, []};
 ghost use Rattle.boxcar.specs.Table.{Shelves};
+ghost use Rattle.tf_manifest.specs.declared.value.Value.{Value};
 
+use crate::Value;
 use std::marker::Brand;
 use tf_table::Repeats;
 
@@ -19,4 +21,10 @@ impl Naming for Brand {
 pub trait RowValue: Repeats {
     /// Which registry has its tables.
     ghost kind: { ℕ };
+    /// The value that a row of it has.
+    ghost seen: { Self → Value };
+
+    /// The stored value as a row's value.
+    fn to_value(self) -> Value
+        ensures { result ≡ seen self };
 }

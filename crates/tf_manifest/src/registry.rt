@@ -1,5 +1,5 @@
 //! The registry of sealed tables.
-ghost use Rattle.std.specs.Prelude.{◌≡◌, IfOk, IfErr};
+ghost use Rattle.std.specs.Prelude.{◌≡◌, ◌<◌, IfOk, IfErr};
 ghost use Rattle.tf_manifest.specs.Table.{shown, no_table};
 ghost use Rattle.tf_manifest.specs.Reference.{shown_of};
 
@@ -63,6 +63,8 @@ impl<V: RowValue, A: Allocator + Clone> Registry<V, A> {
     ) -> Result<TableRef<'r, V, A, N>, Body<V, A>>
         requires { self.now ≡ N.shelf V.kind }
         ensures pushed { IfOk result (λ t. (shown_of t).table ≡ body) }
+        // The blank reference alone has the number 0.
+        ensures numbered { IfOk result (λ t. 0 < (shown_of t).number) }
         ensures back { IfErr result (λ b. b ≡ body) }
     {
         if self.entries.reserve(1).is_err() {

@@ -2,19 +2,16 @@
 ghost use Rattle.std.specs.Prelude.{◌≡◌, ◌+◌, ◌<◌, ◌≤◌, length, OnOk, IfOk};
 ghost use Rattle.tf_manifest.specs.Row.{weight};
 
+mod kinds;
 mod refusals;
 mod runs;
 
-use crate::{Naming, Registry, RowValue, WholeRow};
+use crate::{Naming, Registry, WholeRow};
 use std::alloc::Allocator;
 use std::process::Abort;
 use std::sync::Wait;
 use std::test::Fail;
 use tf_table::Key;
-
-impl RowValue for u64 {
-    ghost kind = { 0 };
-}
 
 /// A key with this value, of a record with timestamp 1.
 fn key(value: u64) -> Key {
