@@ -1,0 +1,6 @@
+pub mod Order
+pub mod Sets
+pub mod Sequence
+pub mod Part
+pub mod Node
+pub mod Falls

@@ -1,0 +1,17 @@
+//! Scans: timestamps in one direction, of leaves and of their unions and intersections.
+#![tactic(auto)]
+
+mod direction;
+mod head;
+mod leaf;
+mod node;
+mod operation;
+mod posting_list;
+mod scan;
+#[cfg(test)]
+mod tests;
+
+pub use direction::Direction;
+pub use leaf::Leaf;
+pub use posting_list::PostingList;
+pub use scan::Scan;
