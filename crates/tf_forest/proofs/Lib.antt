@@ -1,0 +1,12 @@
+pub mod Changes
+pub mod Grown
+pub mod Settled
+pub mod Statuses
+pub mod Closers
+pub mod States
+pub mod StateRow
+pub mod Histories
+pub mod Entries
+pub mod Early
+pub mod GoingBack
+pub mod FoundInRows

@@ -1,0 +1,54 @@
+//! Laws of the rows of a growing journal, each the contract of a function that does nothing.
+//!
+//! A journal is sound where its timestamps rise and each entry was admitted by those before it. So every journal
+//! that a ledger ever holds is sound, between chains and within them.
+
+ghost use Rattle.std.specs.Prelude.{◌≡◌, ◌∷◌, ◌++◌, List, [], ℕ};
+ghost use Rattle.std.specs.List.{All};
+ghost use Rattle.tf_forest.specs.Back.{edits_back};
+ghost use Rattle.tf_forest.specs.Edits.{edited, edits, party_of};
+ghost use Rattle.tf_forest.specs.LookUps.{party_read, pending_read, shown_read, status_read, transfer_read, use_read};
+ghost use Rattle.tf_journal.specs.declared.entry.Entry.{Entry};
+ghost use Rattle.tf_journal.specs.Lawful.{IsSound};
+ghost use Rattle.tf_journal.specs.Ledger.{CanGrow};
+ghost use Rattle.tf_journal.specs.Lookup.{id_use_of, shown_with_id, transfer_with_id};
+ghost use Rattle.tf_journal.specs.Status.{pending_at, status_at};
+ghost use Rattle.tf_manifest.specs.Shows.{Content, Shows, value_of};
+ghost use Rattle.tf_table.specs.declared.key.Key.{Key};
+
+use tf_manifest::{Row, rows_are_maps};
+
+/// What a journal's next entry changes in the 21 rows: at the key of an edit the row has what the edit says, and at
+/// every other key what it had. No two edits of a row contradict each other, so their order says nothing. Does nothing.
+pub fn rows_change_by_edits()
+    ensures rows { (journal : List Entry) (e : Entry) → IsSound journal → CanGrow journal e → (row : Row) (key : Key) → value_of (journal ++ e ∷ []) row key ≡ edited (edits journal e row) (value_of journal row) key }
+    ensures agree { (journal : List Entry) (e : Entry) → IsSound journal → CanGrow journal e → (row : Row) → All (λ edit. value_of (journal ++ e ∷ []) row edit.0 ≡ edit.1) (edits journal e row) }
+{
+    // Each pair that an entry adds, replaces or removes is that of an edit.
+    rows_are_maps();
+}
+
+/// What taking back a journal's last entry changes in the 21 rows, by what was looked up for it when it was added: at
+/// the key of an edit the row has what it had before the entry, and at every other key what it has. Does nothing.
+pub fn rows_go_back_by_edits()
+    ensures rows { (journal : List Entry) (e : Entry) → IsSound journal → CanGrow journal e → (row : Row) (key : Key) → value_of journal row key ≡ edited (edits_back journal e row) (value_of (journal ++ e ∷ []) row) key }
+    ensures agree { (journal : List Entry) (e : Entry) → IsSound journal → CanGrow journal e → (row : Row) → All (λ edit. value_of journal row edit.0 ≡ edit.1) (edits_back journal e row) }
+{
+    // The keys that an entry adds are new, and what it replaces was looked up.
+    rows_are_maps();
+}
+
+/// What the rows that show a journal have at the keys of an account id, a transfer id and a timestamp is what the
+/// journal has: the account with its state and as answers show it, the use of the id with the transfer, and the pending
+/// transfer with its status. So all that the edits of an entry are computed from is read from the rows. Does nothing.
+pub fn rows_answer_look_ups()
+    ensures parties { (content : Content) (journal : List Entry) → IsSound journal → Shows content journal → (id : ℕ) → party_read content id ≡ party_of journal id }
+    ensures uses { (content : Content) (journal : List Entry) → IsSound journal → Shows content journal → (id : ℕ) → use_read content id ≡ id_use_of journal id }
+    ensures transfers { (content : Content) (journal : List Entry) → IsSound journal → Shows content journal → (id : ℕ) → transfer_read content id ≡ transfer_with_id journal id }
+    ensures shown { (content : Content) (journal : List Entry) → IsSound journal → Shows content journal → (id : ℕ) → shown_read content id ≡ shown_with_id journal id }
+    ensures statuses { (content : Content) (journal : List Entry) → IsSound journal → Shows content journal → (timestamp : ℕ) → status_read content timestamp ≡ status_at journal timestamp }
+    ensures pending { (content : Content) (journal : List Entry) → IsSound journal → Shows content journal → (timestamp : ℕ) → pending_read content timestamp ≡ pending_at journal timestamp }
+{
+    // An id has the timestamp of its record, under which the record stands.
+    rows_are_maps();
+}
