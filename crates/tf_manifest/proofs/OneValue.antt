@@ -25,12 +25,7 @@ use Rattle.tf_manifest.specs.Shows.{value_of}
 use Rattle.tf_manifest.proofs.Members.{Has, all_has, any_has, chosen, chosen_from, has_chosen, has_either, has_made, none_has}
 use Rattle.tf_manifest.proofs.Journals.{has_once}
 use Rattle.tf_manifest.proofs.Pairs.{value_found}
-
-pairs_head : {X : Type 0} (R : X → X → Type 0) (x : X) (xs : List X) → AllPairs R (x ∷ xs) → All (R x) xs
-pairs_head R x xs pairs k d within = pairs 0 (suc k) d (omega arith) (omega arith)
-
-pairs_tail : {X : Type 0} (R : X → X → Type 0) (x : X) (xs : List X) → AllPairs R (x ∷ xs) → AllPairs R xs
-pairs_tail R x xs pairs i j d before within = pairs (suc i) (suc j) d (omega arith) (omega arith)
+use Rattle.tf_journal.proofs.Lists.{pairs_head, pairs_tail}
 
 module _ {X : Type 0} where
   pub has_at : (xs : List X) (k : ℕ) (x : X) → k < length xs → slice_index_or xs k x ≡ x → Has xs x
