@@ -2,6 +2,6 @@ pub mod AccountBalanceBytes
 pub mod AccountBytes
 pub mod AccountFilterBytes
 pub mod Bytes
-pub mod Parts
+pub mod Fields
 pub mod QueryFilterBytes
 pub mod TransferBytes

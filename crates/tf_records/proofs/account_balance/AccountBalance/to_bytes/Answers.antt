@@ -16,10 +16,16 @@ pub returns-clause-read_back : goal.returns-clause-read_back
 returns-clause-read_back c =
     let reserved : length c.args.self.now.reserved ≡ 56 = omega arith in
     let written = returns-clause-layout c in
-    rw written (account_balance_of-account_balance_bytes c.args.self.now
-    c.write_u128.ensures.fits
-    c.write_u128-2.ensures.fits
-    c.write_u128-3.ensures.fits
-    c.write_u128-4.ensures.fits
-    c.write_u64.ensures.fits
-    reserved)
+    rw written (account_balance_of-account_balance_bytes c.args.self.now (
+      c.write_u128.ensures.fits,
+      (
+        c.write_u128-2.ensures.fits,
+        (
+          c.write_u128-3.ensures.fits,
+          (
+            c.write_u128-4.ensures.fits,
+            (c.write_u64.ensures.fits, (reserved, tt)),
+          ),
+        ),
+      ),
+    ))

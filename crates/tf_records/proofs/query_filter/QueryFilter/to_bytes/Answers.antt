@@ -16,14 +16,31 @@ pub returns-clause-read_back : goal.returns-clause-read_back
 returns-clause-read_back c =
     let reserved : length c.args.self.now.reserved ≡ 6 = omega arith in
     let written = returns-clause-layout c in
-    rw written (query_filter_of-query_filter_bytes c.args.self.now
-    c.write_u128.ensures.fits
-    c.write_u64.ensures.fits
-    c.write_u32.ensures.fits
-    c.write_u32-2.ensures.fits
-    c.write_u16.ensures.fits
-    reserved
-    c.write_u64-2.ensures.fits
-    c.write_u64-3.ensures.fits
-    c.write_u32-3.ensures.fits
-    c.write_u32-4.ensures.fits)
+    rw written (query_filter_of-query_filter_bytes c.args.self.now (
+      c.write_u128.ensures.fits,
+      (
+        c.write_u64.ensures.fits,
+        (
+          c.write_u32.ensures.fits,
+          (
+            c.write_u32-2.ensures.fits,
+            (
+              c.write_u16.ensures.fits,
+              (
+                reserved,
+                (
+                  c.write_u64-2.ensures.fits,
+                  (
+                    c.write_u64-3.ensures.fits,
+                    (
+                      c.write_u32-3.ensures.fits,
+                      (c.write_u32-4.ensures.fits, tt),
+                    ),
+                  ),
+                ),
+              ),
+            ),
+          ),
+        ),
+      ),
+    ))

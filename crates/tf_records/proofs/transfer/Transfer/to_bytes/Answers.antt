@@ -13,17 +13,40 @@ returns-clause-layout c =
 pub returns-clause-read_back : goal.returns-clause-read_back
 returns-clause-read_back c =
     let written = returns-clause-layout c in
-    rw written (transfer_of-transfer_bytes c.args.self.now
-    c.write_u128.ensures.fits
-    c.write_u128-2.ensures.fits
-    c.write_u128-3.ensures.fits
-    c.write_u128-4.ensures.fits
-    c.write_u128-5.ensures.fits
-    c.write_u128-6.ensures.fits
-    c.write_u64.ensures.fits
-    c.write_u32.ensures.fits
-    c.write_u32-2.ensures.fits
-    c.write_u32-3.ensures.fits
-    c.write_u16.ensures.fits
-    c.write_u16-2.ensures.fits
-    c.write_u64-2.ensures.fits)
+    rw written (transfer_of-transfer_bytes c.args.self.now (
+      c.write_u128.ensures.fits,
+      (
+        c.write_u128-2.ensures.fits,
+        (
+          c.write_u128-3.ensures.fits,
+          (
+            c.write_u128-4.ensures.fits,
+            (
+              c.write_u128-5.ensures.fits,
+              (
+                c.write_u128-6.ensures.fits,
+                (
+                  c.write_u64.ensures.fits,
+                  (
+                    c.write_u32.ensures.fits,
+                    (
+                      c.write_u32-2.ensures.fits,
+                      (
+                        c.write_u32-3.ensures.fits,
+                        (
+                          c.write_u16.ensures.fits,
+                          (
+                            c.write_u16-2.ensures.fits,
+                            (c.write_u64-2.ensures.fits, tt),
+                          ),
+                        ),
+                      ),
+                    ),
+                  ),
+                ),
+              ),
+            ),
+          ),
+        ),
+      ),
+    ))
