@@ -1,12 +1,9 @@
 -- Children that are filled, before and after an edit of their list.
-use Rattle.std.proofs.Common.{◌≡◌, ℕ, zero, suc, ◌+◌, ◌-◌, ◌<◌, ◌≤◌, List, [], ◌∷◌, ◌++◌, length, take, drop, set, get_or, Bool, true, false, eqb, inl, inr, ◌≢◌, refl, sym, ◌∙◌, ap, subst, arith}
+use Rattle.tf_btree.proofs.Words.{◌≡◌, ℕ, suc, ◌+◌, ◌-◌, ◌<◌, ◌≤◌, List, [], ◌∷◌, ◌++◌, length, take, drop, set, get_or, Bool, true, false, eqb, inl, inr, ◌≢◌, refl, sym, ◌∙◌, ap, subst, arith, cases_lt, eqb_tells, take-suc-set, length-append, length-drop, drop_all, set-get_or, set_split, set-set}
+use Rattle.tf_btree.proofs.Words.{set_past, set_comm, set_at, set-append_right, get_or_at, get_or-append_right, get_or-set_same, get_or-set_other, drop-set-lt, insert_end, IsPairIn, half_full, no_entries, Shape, childless, child, Fill, shape_of, edge_before, edge_at, AreFilled, AllFilled, IsFilled}
+use Rattle.tf_btree.proofs.Words.{one_more, one_more_at, Subtree, fill_of}
 use Rattle.std.specs.List.{insert, remove}
-use Rattle.std.proofs.lemmas.Bool.Decides.{eqb_tells}
-use Rattle.std.proofs.lemmas.List.{take-append-drop, length-append, length-drop, drop_all, get_or_default}
-use Rattle.std.proofs.lemmas.List.Edits.{insert_end, length-remove, get_or-remove_below}
-use Rattle.tf_btree.proofs.Runs.{length_insert_pos}
-use Rattle.tf_btree.specs.Shape.{Shape, childless, child, Fill, shape_of, edge_before, edge_at, AreFilled, AllFilled, IsFilled, one_more, one_more_at}
-use Rattle.tf_btree.specs.Subtree.{Subtree, fill_of}
+use Rattle.tf_btree.proofs.Pair.{put_one, put_two}
 
 -- on the right edge less is asked
 AreFilled-edge : (s : Shape) → AreFilled s false → AreFilled s true
@@ -63,161 +60,114 @@ edge_before-some : (edge : Bool) (fs : List Fill) → 0 < length fs → edge_bef
 edge_before-some edge [] some = absurd (omega arith)
 edge_before-some edge (f ∷ fs) some = refl
 
--- as the code tells it: off the edge no child is, and on it the last one
-pub edge_at_off : (edge : Bool) (fs : List Fill) (i : ℕ) → edge ≡ false → edge ≡ edge_at edge fs i
-edge_at_off true fs i off = absurd (cc)
-edge_at_off false fs i off = sym (edge_before-off (shape_of (drop (suc i) fs)))
-
 pub edge_at_on : (edge last : Bool) (fs : List Fill) (i n : ℕ) → edge ≡ true → last ≡ eqb (i + 1) n → n ≡ length fs → i < length fs → last ≡ edge_at edge fs i
 edge_at_on edge last fs i n on is many lt = elim (eqb_tells (i + 1) n) [
   | inl t ↦ is ∙ t.0 ∙ sym (let end : drop (suc i) fs ≡ [] = drop_all (suc i) fs (omega (arith, t.1)) in ap (λ (ds : List Fill). edge_before (shape_of ds) edge) end ∙ on)
   | inr f ↦ is ∙ f.0 ∙ sym (edge_before-some edge (drop (suc i) fs) (let ne : i + 1 ≢ n = f.1 in omega (arith, length-drop (suc i) fs)))
 ]
 
+-- the children before one, that one, and those behind it
+filled_around : (edge : Bool) (xs : List Fill) (f : Fill) (ys : List Fill) → AllFilled edge (xs ++ f ∷ ys) → AllFilled false xs × IsFilled (edge_before (shape_of ys) edge) f × AllFilled edge ys
+filled_around edge xs f ys h = let parts = filled_split edge xs (f ∷ ys) (omega arith) h in (parts.0, filled_first edge f ys parts.1, parts.1.2)
+
+filled_between : (edge : Bool) (xs : List Fill) (f : Fill) (ys : List Fill) → AllFilled false xs → IsFilled (edge_before (shape_of ys) edge) f → AllFilled edge ys → AllFilled edge (xs ++ f ∷ ys)
+filled_between edge xs f ys before here behind = filled_append edge xs (f ∷ ys) before (filled_put edge f ys here behind)
+
+split_at : {X : Type 0} (xs : List X) (i : ℕ) (d : X) → i < length xs → xs ≡ take i xs ++ get_or xs i d ∷ drop (suc i) xs
+split_at xs i d lt = sym (set-get_or xs i d) ∙ set_split xs i (get_or xs i d) lt
+
+filled_parts : (edge : Bool) (fs : List Fill) (i : ℕ) (d : Fill) → i < length fs → AllFilled edge fs → AllFilled false (take i fs) × IsFilled (edge_at edge fs i) (get_or fs i d) × AllFilled edge (drop (suc i) fs)
+filled_parts edge fs i d lt h = filled_around edge (take i fs) (get_or fs i d) (drop (suc i) fs) (subst (λ (gs : List Fill). AllFilled edge gs) (split_at fs i d lt) h)
+
 pub filled_at : (edge : Bool) (fs : List Fill) (i : ℕ) (d : Fill) → i < length fs → AllFilled edge fs → IsFilled (edge_at edge fs i) (get_or fs i d)
-filled_at edge [] i d lt h = absurd (omega arith)
-filled_at edge (f ∷ fs) zero d lt h = filled_first edge f fs h
-filled_at edge (f ∷ fs) (suc i) d lt h = filled_at edge fs i d (omega arith) h.2
+filled_at edge fs i d lt h = (filled_parts edge fs i d lt h).1
 
 -- the child at i edited, and what was split off it behind it
 pub filled_edited : (edge : Bool) (fs : List Fill) (i : ℕ) (f : Fill) → i < length fs → AllFilled edge fs → IsFilled (edge_at edge fs i) f → AllFilled edge (set fs i f)
-filled_edited edge [] i f lt h new = absurd (omega arith)
-filled_edited edge (x ∷ fs) zero f lt h new = filled_put edge f fs new h.2
-filled_edited edge (x ∷ fs) (suc i) f lt h new = filled_cons edge x (set fs i f) (filled_before edge x fs h (omega arith)) (filled_edited edge fs i f (omega arith) h.2 new)
+filled_edited edge fs i f lt h new = let parts = filled_parts edge fs i f lt h in rw (set_split fs i f lt) (filled_between edge (take i fs) f (drop (suc i) fs) parts.0 new parts.2)
 
 pub filled_parted : (edge : Bool) (fs : List Fill) (i : ℕ) (f g : Fill) → i < length fs → AllFilled edge fs → IsFilled false f → IsFilled (edge_at edge fs i) g → AllFilled edge (insert (set fs i f) (suc i) g)
-filled_parted edge [] i f g lt h new behind = absurd (omega arith)
-filled_parted edge (x ∷ fs) zero f g lt h new behind = filled_cons edge f (g ∷ fs) new (filled_put edge g fs behind h.2)
-filled_parted edge (x ∷ fs) (suc i) f g lt h new behind = filled_cons edge x (insert (set fs i f) (suc i) g) (filled_before edge x fs h (omega arith)) (filled_parted edge fs i f g (omega arith) h.2 new behind)
+filled_parted edge fs i f g lt h new behind =
+    let parts = filled_parts edge fs i f lt h in
+    let front = filled_append false (take i fs) (f ∷ []) parts.0 (filled_put false f [] new tt) in
+    rw (take-suc-set fs i f lt, drop-set-lt (suc i) fs i f (omega arith)) (filled_between edge (take i fs ++ f ∷ []) g (drop (suc i) fs) front behind parts.2)
 
 -- the child at i with one entry less
 pub filled_short : (edge : Bool) (fs : List Fill) (i : ℕ) (f : Fill) → i < length fs → AllFilled edge fs → IsFilled (edge_at edge fs i) (one_more f) → AllFilled edge (one_more_at i (set fs i f))
-filled_short edge [] i f lt h new = absurd (omega arith)
-filled_short edge (x ∷ fs) zero f lt h new = filled_put edge (one_more f) fs new h.2
-filled_short edge (x ∷ fs) (suc i) f lt h new = filled_cons edge x (one_more_at i (set fs i f)) (filled_before edge x fs h (omega arith)) (filled_short edge fs i f (omega arith) h.2 new)
+filled_short edge fs i f lt h new = rw (get_or-set_same fs i f no_entries lt, set-set fs i f (one_more f)) (filled_edited edge fs i (one_more f) lt h new)
 
 -- a child without entries was on the right edge, so the others are filled without it
 pub empty_edge : (edge : Bool) (fs : List Fill) (i : ℕ) (f : Fill) → IsFilled (edge_at edge fs i) (one_more f) → f.entries ≡ 0 → edge ≡ false → ⊥
 empty_edge true fs i f new empty off = cc
 empty_edge false fs i f new empty off = let n = new.half (edge_before-off (shape_of (drop (suc i) fs))) in omega arith
 
-pub filled_without : (edge : Bool) (fs : List Fill) (i : ℕ) (f : Fill) → i < length fs → AllFilled edge fs → IsFilled (edge_at edge fs i) (one_more f) → f.entries ≡ 0 → AllFilled edge (remove fs i)
-filled_without edge [] i f lt h new empty = absurd (omega arith)
-filled_without edge (x ∷ []) zero f lt h new empty = tt
-filled_without edge (x ∷ y ∷ fs) zero f lt h new empty = h.2
-filled_without edge (x ∷ fs) (suc i) f lt h new empty = filled_cons edge x (remove fs i) (filled_before edge x fs h (omega arith)) (filled_without edge fs i f (omega arith) h.2 new empty)
-
-shape-more : (i : ℕ) (fs : List Fill) (edge : Bool) → edge_before (shape_of (one_more_at i fs)) edge ≡ edge_before (shape_of fs) edge
-shape-more i [] edge = refl
-shape-more zero (f ∷ fs) edge = refl
-shape-more (suc i) (f ∷ fs) edge = refl
+pub filled_without : (edge : Bool) (fs : List Fill) (i : ℕ) → i < length fs → AllFilled edge fs → AllFilled edge (remove fs i)
+filled_without edge fs i lt h = let parts = filled_parts edge fs i no_entries lt h in filled_append edge (take i fs) (drop (suc i) fs) parts.0 parts.2
 
 -- one entry more leaves the children filled
 pub filled_more : (edge : Bool) (i : ℕ) (fs : List Fill) → AllFilled edge fs → AllFilled edge (one_more_at i fs)
-filled_more edge i [] h = tt
-filled_more edge zero (f ∷ fs) h = filled_put edge (one_more f) fs (IsFilled-more _ f (filled_first edge f fs h)) h.2
-filled_more edge (suc i) (f ∷ fs) h = filled_put edge f (one_more_at i fs) (subst (λ (b : Bool). IsFilled b f) (sym (shape-more i fs edge)) (filled_first edge f fs h)) (filled_more edge i fs h.2)
+filled_more edge i fs h = elim (cases_lt i (length fs)) [
+  | inl lt ↦ filled_edited edge fs i _ lt h (IsFilled-more _ _ (filled_at edge fs i no_entries lt h))
+  | inr le ↦ rw (set_past fs i (one_more (get_or fs i no_entries)) le) h
+]
 
-length-more : (i : ℕ) (fs : List Fill) → length (one_more_at i fs) ≡ length fs
-length-more i [] = refl
-length-more zero (f ∷ fs) = refl
-length-more (suc i) (f ∷ fs) = ap suc (length-more i fs)
+-- and so does one less, unless it leaves a node off the right edge less than half full
+pub filled_less : (edge : Bool) (i : ℕ) (fs : List Fill) → (i < length fs → edge_at edge fs i ≡ false → half_full ≤ (get_or fs i no_entries).entries) → AllFilled edge (one_more_at i fs) → AllFilled edge fs
+filled_less edge i fs enough h = elim (cases_lt i (length fs)) [
+  | inl lt ↦
+      let own = get_or fs i no_entries in
+      let parts = filled_around edge (take i fs) (one_more own) (drop (suc i) fs) (rw (set_split fs i (one_more own) lt) at h) in
+      subst (λ (gs : List Fill). AllFilled edge gs) (sym (split_at fs i no_entries lt)) (filled_between edge (take i fs) own (drop (suc i) fs) parts.0 (record { half = enough lt; below = parts.1.below }) parts.2)
+  | inr le ↦ rw (set_past fs i (one_more (get_or fs i no_entries)) le) at h
+]
 
--- a place behind all children adds nothing
-pub filled_beyond : (edge : Bool) (i : ℕ) (fs : List Fill) → length fs ≤ i → AllFilled edge (one_more_at i fs) → AllFilled edge fs
-filled_beyond edge i [] le h = tt
-filled_beyond edge zero (f ∷ fs) le h = absurd (omega arith)
-filled_beyond edge (suc i) (f ∷ fs) le h = filled_put edge f fs (subst (λ (b : Bool). IsFilled b f) (shape-more i fs edge) (filled_first edge f (one_more_at i fs) h)) (filled_beyond edge i fs (omega arith) h.2)
+-- where two neighbours may each lack an entry
+module _ (edge : Bool) (fs : List Fill) (i : ℕ) (f g : Fill) (rest : List Fill) (pair : IsPairIn fs i f g rest) (h : AllFilled edge (one_more_at i (one_more_at (i + 1) fs))) where
+  -- the right edge, as the second one sees it
+  abbrev pub pair_edge : Bool
+  pair_edge = edge_before (shape_of pair.back) edge
 
--- nor does one where the child is half full without it
-pub filled_enough : (edge : Bool) (i : ℕ) (fs : List Fill) (d : Fill) → i < length fs → 16 ≤ (get_or fs i d).entries → AllFilled edge (one_more_at i fs) → AllFilled edge fs
-filled_enough edge i [] d lt half h = tt
-filled_enough edge zero (f ∷ fs) d lt half h = filled_put edge f fs (record { half = λ e. half; below = h.1 }) h.2
-filled_enough edge (suc i) (f ∷ fs) d lt half h = filled_put edge f fs (subst (λ (b : Bool). IsFilled b f) (shape-more i fs edge) (filled_first edge f (one_more_at i fs) h)) (filled_enough edge i fs d (omega arith) half h.2)
+  pair_inside : AllFilled edge (pair.front ++ one_more f ∷ one_more g ∷ pair.back)
+  pair_inside =
+      let place = pair.place in
+      let second = set-append_right pair.front (f ∷ g ∷ pair.back) i (i + 1) (one_more g) place (omega arith) in
+      let here = get_or-append_right pair.front (f ∷ g ∷ pair.back) i (i + 1) no_entries place (omega arith) in
+      let one : i + 1 - i ≡ 1 = omega arith in
+      let both : one_more_at i (one_more_at (i + 1) (pair.front ++ f ∷ g ∷ pair.back)) ≡ pair.front ++ one_more f ∷ one_more g ∷ pair.back =
+      rw (here, one, second, one, get_or_at pair.front f (one_more g ∷ pair.back) no_entries i place) (set_at pair.front f (one_more g ∷ pair.back) (one_more f) i place) in
+      subst (λ (gs : List Fill). AllFilled edge gs) (ap (λ (gs : List Fill). one_more_at i (one_more_at (i + 1) gs)) pair.all ∙ both) h
 
--- nor does one on the right edge
-pub filled_alone : (i : ℕ) (fs : List Fill) → length fs ≤ 1 → AllFilled true (one_more_at i fs) → AllFilled true fs
-filled_alone i [] le h = tt
-filled_alone zero (f ∷ []) le h = (λ e. absurd (cc), h.1, tt)
-filled_alone (suc i) (f ∷ []) le h = h
-filled_alone i (f ∷ g ∷ fs) le h = absurd (omega arith)
+  -- the others are filled
+  pair_others : AllFilled false pair.front × IsFilled false (one_more f) × IsFilled pair_edge (one_more g) × AllFilled edge pair.back
+  pair_others =
+      let first = filled_around edge pair.front (one_more f) (one_more g ∷ pair.back) pair_inside in
+      let second = filled_around edge [] (one_more g) pair.back first.2 in
+      (first.0, first.1, second.1, second.2)
 
-pub filled_few : (edge : Bool) (i : ℕ) (fs : List Fill) → (edge ≡ false → ⊥) → length fs ≤ 1 → AllFilled edge (one_more_at i fs) → AllFilled edge fs
-filled_few true i fs on le h = filled_alone i fs le h
-filled_few false i fs on le h = absurd (on refl)
+  pub pair_filled : IsFilled false (one_more f) × IsFilled pair_edge (one_more g)
+  pair_filled = (pair_others.1, pair_others.2)
 
--- the children at i and behind it may each have one entry too few
-abbrev pub PairFilled : Bool → ℕ → List Fill → Type 0
-PairFilled edge i fs = AllFilled edge (one_more_at i (one_more_at (suc i) fs))
+  -- and so are all with one node in place of the two, or two others
+  pub pair_as_one : (j : Fill) → IsFilled pair_edge j → AllFilled edge (insert rest i j)
+  pair_as_one j new = rw (put_one fs i f g rest pair j) (filled_between edge pair.front j pair.back pair_others.0 new pair_others.3)
 
--- their fills, and that the first isn't on the right edge
-pub pair_filled : (edge : Bool) (i : ℕ) (fs : List Fill) (f g d : Fill) → suc i < length fs → get_or fs i d ≡ f → get_or fs (suc i) d ≡ g → PairFilled edge i fs → IsFilled false (one_more f) × IsFilled (edge_at edge fs (suc i)) (one_more g)
-pair_filled edge i [] f g d lt first second h = absurd (omega arith)
-pair_filled edge i (x ∷ []) f g d lt first second h = absurd (omega arith)
-pair_filled edge zero (x ∷ y ∷ fs) f g d lt first second h = (
-  subst (λ (z : Fill). IsFilled false (one_more z)) first (record { half = h.0; below = h.1 }),
-  subst (λ (z : Fill). IsFilled (edge_before (shape_of fs) edge) (one_more z)) second (record { half = h.2.0; below = h.2.1 }),
-)
-pair_filled edge (suc i) (x ∷ y ∷ fs) f g d lt first second h = pair_filled edge i (y ∷ fs) f g d (omega arith) first second h.2
+  pub pair_as_two : (j k : Fill) → IsFilled false j → IsFilled pair_edge k → AllFilled edge (insert (insert rest i k) i j)
+  pair_as_two j k first second =
+      rw (put_two fs i f g rest pair j k) (filled_between edge pair.front j (k ∷ pair.back) pair_others.0 first (filled_between edge [] k pair.back tt second pair_others.3))
 
--- one child in place of the two
-pub pair_joined : (edge : Bool) (i : ℕ) (fs : List Fill) (j : Fill) → suc i < length fs → PairFilled edge i fs → IsFilled (edge_at edge fs (suc i)) j → AllFilled edge (insert (remove (remove fs (suc i)) i) i j)
-pair_joined edge i [] j lt h new = absurd (omega arith)
-pair_joined edge i (x ∷ []) j lt h new = absurd (omega arith)
-pair_joined edge zero (x ∷ y ∷ fs) j lt h new = filled_put edge j fs new h.2.2
-pair_joined edge (suc i) (x ∷ y ∷ fs) j lt h new =
-    let long = length-more i (one_more_at (suc i) (y ∷ fs)) in
-    let long-2 = length-more (suc i) (y ∷ fs) in
-    filled_cons edge x (insert (remove (remove (y ∷ fs) (suc i)) i) i j) (filled_before edge x (one_more_at i (one_more_at (suc i) (y ∷ fs))) h (omega arith)) (pair_joined edge i (y ∷ fs) j (omega arith) h.2 new)
-
--- or two others
-pub pair_moved : (edge : Bool) (i : ℕ) (fs : List Fill) (f g : Fill) → suc i < length fs → PairFilled edge i fs → IsFilled false f → IsFilled (edge_at edge fs (suc i)) g → AllFilled edge (insert (insert (remove (remove fs (suc i)) i) i g) i f)
-pair_moved edge i [] f g lt h first second = absurd (omega arith)
-pair_moved edge i (x ∷ []) f g lt h first second = absurd (omega arith)
-pair_moved edge zero (x ∷ y ∷ fs) f g lt h first second = filled_cons edge f (g ∷ fs) first (filled_put edge g fs second h.2.2)
-pair_moved edge (suc i) (x ∷ y ∷ fs) f g lt h first second =
-    let long = length-more i (one_more_at (suc i) (y ∷ fs)) in
-    let long-2 = length-more (suc i) (y ∷ fs) in
-    filled_cons edge x (insert (insert (remove (remove (y ∷ fs) (suc i)) i) i g) i f) (filled_before edge x (one_more_at i (one_more_at (suc i) (y ∷ fs))) h (omega arith)) (pair_moved edge i (y ∷ fs) f g (omega arith) h.2 first second)
-
--- a node without children is filled as soon as it has enough entries
-pub filled_leaf : {K V : Type 0} (edge : Bool) (s : Subtree K V) → s.fills ≡ [] → (edge ≡ false → 16 ≤ length s.parts) → IsFilled edge (fill_of s)
-filled_leaf edge s bare half = record { half = half; below = subst (λ (fs : List Fill). AllFilled edge fs) (sym bare) tt }
-
-pub filled_branch : {K V : Type 0} (edge : Bool) (s : Subtree K V) (fs : List Fill) → s.fills ≡ fs → AllFilled edge fs → (edge ≡ false → 16 ≤ length s.parts) → IsFilled edge (fill_of s)
+pub filled_branch : {K V : Type 0} (edge : Bool) (s : Subtree K V) (fs : List Fill) → s.fills ≡ fs → AllFilled edge fs → (edge ≡ false → half_full ≤ length s.parts) → IsFilled edge (fill_of s)
 filled_branch edge s fs is all half = record { half = half; below = subst (λ (gs : List Fill). AllFilled edge gs) (sym is) all }
 
-pub filled_same : {K V : Type 0} (edge : Bool) (old new : Subtree K V) → new.fills ≡ old.fills → length old.parts ≤ length new.parts → IsFilled edge (fill_of old) → IsFilled edge (fill_of new)
-filled_same edge old new same more h = filled_branch edge new old.fills same h.below (λ off. let n = h.half off in omega arith)
-
 -- a node that lost at most one entry
-pub filled_fewer_than : {K V : Type 0} (edge : Bool) (s : Subtree K V) → AllFilled edge s.fills → (edge ≡ false → 16 ≤ suc (length s.parts)) → IsFilled edge (one_more (fill_of s))
+pub filled_fewer_than : {K V : Type 0} (edge : Bool) (s : Subtree K V) → AllFilled edge s.fills → (edge ≡ false → half_full ≤ suc (length s.parts)) → IsFilled edge (one_more (fill_of s))
 filled_fewer_than edge s all half = record { half = half; below = all }
 
 pub filled_fewer : {K V : Type 0} (edge : Bool) (old new : Subtree K V) → new.fills ≡ old.fills → length old.parts ≤ suc (length new.parts) → IsFilled edge (fill_of old) → IsFilled edge (one_more (fill_of new))
 filled_fewer edge old new same less h = filled_fewer_than edge new (subst (λ (fs : List Fill). AllFilled edge fs) (sym same) h.below) (λ off. let n = h.half off in omega arith)
 
--- a list with one more in the first of two parts, or in the second
-pub insert_left : {X : Type 0} (xs : List X) (m i : ℕ) (x : X) → i ≤ m → insert (take m xs) i x ++ drop m xs ≡ insert xs i x
-insert_left xs m zero x le = ap (λ ys. x ∷ ys) (take-append-drop m xs)
-insert_left xs zero (suc i) x le = absurd (omega arith)
-insert_left [] (suc m) (suc i) x le = refl
-insert_left (y ∷ xs) (suc m) (suc i) x le = ap (λ ys. y ∷ ys) (insert_left xs m i x (omega arith))
-
-pub insert_right : {X : Type 0} (xs : List X) (m i : ℕ) (x : X) → m ≤ i → m ≤ length xs → take m xs ++ insert (drop m xs) (i - m) x ≡ insert xs i x
-insert_right xs zero i x le within = let e : i - 0 ≡ i = omega arith in rw e refl
-insert_right [] (suc m) i x le within = absurd (omega arith)
-insert_right (y ∷ xs) (suc m) zero x le within = absurd (omega arith)
-insert_right (y ∷ xs) (suc m) (suc i) x le within = let e : suc i - suc m ≡ i - m = omega arith in rw e (ap (λ ys. y ∷ ys) (insert_right xs m i x (omega arith) (omega arith)))
-
--- so both parts are filled where the whole was, the first one off the edge
-pub filled_left : (edge : Bool) (fs : List Fill) (m i : ℕ) (f : Fill) → i ≤ m → m < length fs → AllFilled edge (insert fs i f) → AllFilled false (insert (take m fs) i f) × AllFilled edge (drop m fs)
-filled_left edge fs m i f le lt h =
-    filled_split edge (insert (take m fs) i f) (drop m fs) (omega (arith, length-drop m fs)) (subst (λ (gs : List Fill). AllFilled edge gs) (sym (insert_left fs m i f le)) h)
-
-pub filled_right : (edge : Bool) (fs : List Fill) (m i : ℕ) (f : Fill) → m ≤ i → m ≤ length fs → AllFilled edge (insert fs i f) → AllFilled false (take m fs) × AllFilled edge (insert (drop m fs) (i - m) f)
-filled_right edge fs m i f le within h =
-    filled_split edge (take m fs) (insert (drop m fs) (i - m) f) (length_insert_pos (drop m fs) (i - m) f) (subst (λ (gs : List Fill). AllFilled edge gs) (sym (insert_right fs m i f le within)) h)
+-- both parts are filled where the whole is, the first one off the edge
+pub filled_apart : (edge : Bool) (fs gs hs : List Fill) → fs ++ gs ≡ hs → 0 < length gs → AllFilled edge hs → AllFilled false fs × AllFilled edge gs
+filled_apart edge fs gs hs all some h = filled_split edge fs gs some (rw (← all) at h)
 
 -- the first child moved behind others, which aren't on the right edge
 pub first_moved : (edge : Bool) (fs gs : List Fill) (n : ℕ) (f : Fill) → n ≡ length fs → 1 < length gs → get_or gs 0 f ≡ f → AllFilled false fs → AllFilled edge gs → AllFilled false (insert fs n f) × AllFilled edge (remove gs 0)
@@ -227,52 +177,20 @@ first_moved edge fs (g ∷ gs) n f end more is a b =
     let last : insert fs n f ≡ fs ++ f ∷ [] = ap (λ (m : ℕ). insert fs m f) end ∙ insert_end fs f in
     (subst (λ (xs : List Fill). AllFilled false xs) (sym last) (filled_append false fs (f ∷ []) a (filled_put false f [] first tt)), b.2)
 
-filled_removed : (fs : List Fill) (i : ℕ) → AllFilled false fs → AllFilled false (remove fs i)
-filled_removed [] zero h = tt
-filled_removed [] (suc i) h = tt
-filled_removed (f ∷ fs) zero h = h.2
-filled_removed (f ∷ fs) (suc i) h = filled_cons false f (remove fs i) (filled_off f fs h) (filled_removed fs i h.2)
-
 -- the last child moved before others
 pub last_moved : (edge : Bool) (fs gs : List Fill) (n : ℕ) (f : Fill) → n < length fs → get_or fs n f ≡ f → AllFilled false fs → AllFilled edge gs → AllFilled false (remove fs n) × AllFilled edge (insert gs 0 f)
 last_moved edge fs gs n f lt is a b =
     let at : IsFilled false (get_or fs n f) = subst (λ (e : Bool). IsFilled e (get_or fs n f)) (edge_before-off (shape_of (drop (suc n) fs))) (filled_at false fs n f lt a) in
-    (filled_removed fs n a, filled_cons edge f gs (subst (λ (x : Fill). IsFilled false x) is at) b)
+    (filled_without false fs n lt a, filled_cons edge f gs (subst (λ (x : Fill). IsFilled false x) is at) b)
 
--- the two children at i and behind it, which were taken out, the second first
-pub pair_found : (edge : Bool) (fs : List Fill) (i : ℕ) (f g : Fill) → i + 1 < length fs → get_or fs (i + 1) g ≡ g → get_or (remove fs (i + 1)) i f ≡ f → AllFilled edge (one_more_at i (one_more_at (i + 1) fs))
-    → IsFilled false (one_more f) × IsFilled (edge_at edge fs (i + 1)) (one_more g)
-pair_found edge fs i f g lt second first h =
-    let at : i + 1 ≡ suc i = omega arith in
-    let once = length-remove fs (i + 1) lt in
-    let here : get_or fs i f ≡ f = sym (get_or-remove_below fs (i + 1) f i (omega arith) lt) ∙ first in
-    let there : get_or fs (suc i) f ≡ g = ap (λ (j : ℕ). get_or fs j f) (sym at) ∙ get_or_default fs (i + 1) f g lt ∙ second in
-    let pair = pair_filled edge i fs f g f (omega arith) here there (subst (λ (j : ℕ). AllFilled edge (one_more_at i (one_more_at j fs))) at h) in
-    (pair.0, subst (λ (j : ℕ). IsFilled (edge_at edge fs j) (one_more g)) (sym at) pair.1)
-
-pub pair_as_one : (edge : Bool) (fs : List Fill) (i : ℕ) (j : Fill) → i + 1 < length fs → AllFilled edge (one_more_at i (one_more_at (i + 1) fs)) → IsFilled (edge_at edge fs (i + 1)) j → AllFilled edge (insert (remove (remove fs (i + 1)) i) i j)
-pair_as_one edge fs i j lt h new = let at : i + 1 ≡ suc i = omega arith in
-    subst (λ (n : ℕ). AllFilled edge (insert (remove (remove fs n) i) i j)) (sym at)
-    (pair_joined edge i fs j (omega arith) (subst (λ (n : ℕ). AllFilled edge (one_more_at i (one_more_at n fs))) at h) (subst (λ (n : ℕ). IsFilled (edge_at edge fs n) j) at new))
-
-pub pair_as_two : (edge : Bool) (fs : List Fill) (i : ℕ) (f g : Fill) → i + 1 < length fs → AllFilled edge (one_more_at i (one_more_at (i + 1) fs)) → IsFilled false f → IsFilled (edge_at edge fs (i + 1)) g → AllFilled edge (insert (insert (remove (remove fs (i + 1)) i) i g) i f)
-pair_as_two edge fs i f g lt h first second = let at : i + 1 ≡ suc i = omega arith in
-    subst (λ (n : ℕ). AllFilled edge (insert (insert (remove (remove fs n) i) i g) i f)) (sym at)
-    (pair_moved edge i fs f g (omega arith) (subst (λ (n : ℕ). AllFilled edge (one_more_at i (one_more_at n fs))) at h) first (subst (λ (n : ℕ). IsFilled (edge_at edge fs n) g) at second))
-
--- where a child may lack an entry, it and its neighbour may
-pub pair_from_second : (edge : Bool) (i : ℕ) (fs : List Fill) → AllFilled edge (one_more_at (i + 1) fs) → AllFilled edge (one_more_at i (one_more_at (i + 1) fs))
-pair_from_second edge i fs h = filled_more edge i (one_more_at (i + 1) fs) h
-
-one_more-twice : (i j : ℕ) (fs : List Fill) → one_more_at i (one_more_at j fs) ≡ one_more_at j (one_more_at i fs)
-one_more-twice i j [] = refl
-one_more-twice zero zero (f ∷ fs) = refl
-one_more-twice zero (suc j) (f ∷ fs) = refl
-one_more-twice (suc i) zero (f ∷ fs) = refl
-one_more-twice (suc i) (suc j) (f ∷ fs) = ap (λ (gs : List Fill). f ∷ gs) (one_more-twice i j fs)
-
+-- where a child may lack an entry, it and the one behind it may
 pub pair_from_first : (edge : Bool) (i : ℕ) (fs : List Fill) → AllFilled edge (one_more_at i fs) → AllFilled edge (one_more_at i (one_more_at (i + 1) fs))
-pair_from_first edge i fs h = subst (λ (gs : List Fill). AllFilled edge gs) (one_more-twice (i + 1) i fs) (filled_more edge (i + 1) (one_more_at i fs) h)
+pair_from_first edge i fs h =
+    let n = no_entries in
+    let there = get_or-set_other fs i (i + 1) (one_more (get_or fs i n)) n (omega arith) in
+    let here = get_or-set_other fs (i + 1) i (one_more (get_or fs (i + 1) n)) n (omega arith) in
+    let apart = set_comm fs i (i + 1) (one_more (get_or fs i n)) (one_more (get_or fs (i + 1) n)) (omega arith) in
+    rw (here, ← apart) (rw there at (filled_more edge (i + 1) (one_more_at i fs) h))
 
 -- two nodes as one, where each may lack an entry
 pub joined_filled : {K V : Type 0} (edge : Bool) (first second new : Subtree K V) → new.parts ≡ first.parts ++ second.parts → new.fills ≡ first.fills ++ second.fills → 0 < length second.parts

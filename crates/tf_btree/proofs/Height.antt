@@ -1,32 +1,26 @@
 -- How many rows are below a node of some height.
-use Rattle.std.proofs.Common.{◌≡◌, ℕ, zero, suc, ◌*◌, ◌^◌, ◌<◌, ◌≤◌, List, [], ◌∷◌, ◌++◌, length, map, Some, Bool, true, false, inl, inr, refl, sym, subst, arith}
-use Rattle.std.proofs.lemmas.List.{length-append, length-map}
-use Rattle.std.proofs.lemmas.Bool.{cases_lt}
-use Rattle.std.proofs.Math.Nat.{mul-suc, pow-suc, mul-le-mul_left}
-use Rattle.tf_btree.specs.Shape.{AllFilled}
-use Rattle.tf_btree.specs.Subtree.{Subtree, joined, rows, fill_of}
-use Rattle.tf_btree.specs.Node.{first_key, IsCounted, AllChildren, height_over, subtree_of, IsNode}
-use Rattle.tf_btree.specs.Tree.{IsRoot, IsTall}
+use Rattle.tf_btree.proofs.Words.{◌≡◌, ℕ, zero, suc, ◌*◌, ◌^◌, ◌<◌, ◌≤◌, List, [], ◌∷◌, ◌++◌, length, map, Some, Bool, true, false, inl, inr, refl, sym, subst, arith, length-append, length-map, cases_lt, mul-suc, pow-suc, mul-le-mul_left, AllFilled, Subtree, joined, rows, fill_of, first_key}
+use Rattle.tf_btree.proofs.Words.{capacity, half_full, IsCounted, AllChildren, height_over, subtree_of, IsNode, IsRoot, IsTall}
 use Rattle.tf_btree.proofs.Entries.{length-parts}
 use Rattle.tf_btree.proofs.Runs.{length-pairs}
 use Rattle.tf_btree.proofs.Filled.{filled_before, filled_off}
 use Rattle.tf_btree.proofs.InPlace.{some_first}
 
 -- children that are filled, and any
-least_rows : {K V : Type 0} (h : ℕ) (cs : List (Subtree K V)) → AllChildren h cs → AllFilled false (map fill_of cs) → 16 ^ h * length cs ≤ length (joined (map rows cs))
+least_rows : {K V : Type 0} (h : ℕ) (cs : List (Subtree K V)) → AllChildren h cs → AllFilled false (map fill_of cs) → half_full ^ h * length cs ≤ length (joined (map rows cs))
 least_rows h [] a f = omega arith
 least_rows h (c ∷ cs) a f =
-    let own : 16 ^ h ≤ length (rows c) = subst (λ (n : ℕ). 16 ^ n ≤ length (rows c)) a.0.level (a.0.counted.least (filled_off (fill_of c) (map fill_of cs) f)) in
-    omega (arith, mul-suc (16 ^ h) (length cs), length-append (rows c) (joined (map rows cs)), least_rows h cs a.1 f.2)
+    let own : half_full ^ h ≤ length (rows c) = subst (λ (n : ℕ). half_full ^ n ≤ length (rows c)) a.0.level (a.0.counted.least (filled_off (fill_of c) (map fill_of cs) f)) in
+    omega (arith, mul-suc (half_full ^ h) (length cs), length-append (rows c) (joined (map rows cs)), least_rows h cs a.1 f.2)
 
-most_rows : {K V : Type 0} (h : ℕ) (cs : List (Subtree K V)) → AllChildren h cs → length (joined (map rows cs)) ≤ 32 ^ h * length cs
+most_rows : {K V : Type 0} (h : ℕ) (cs : List (Subtree K V)) → AllChildren h cs → length (joined (map rows cs)) ≤ capacity ^ h * length cs
 most_rows h [] a = omega arith
 most_rows h (c ∷ cs) a =
-    let own : length (rows c) ≤ 32 ^ h = subst (λ (n : ℕ). length (rows c) ≤ 32 ^ n) a.0.level a.0.counted.most in
-    omega (arith, mul-suc (32 ^ h) (length cs), length-append (rows c) (joined (map rows cs)), most_rows h cs a.1)
+    let own : length (rows c) ≤ capacity ^ h = subst (λ (n : ℕ). length (rows c) ≤ capacity ^ n) a.0.level a.0.counted.most in
+    omega (arith, mul-suc (capacity ^ h) (length cs), length-append (rows c) (joined (map rows cs)), most_rows h cs a.1)
 
 -- so any node has as many as its height tells
-node_counted : {K V : Type 0} (b : Bool) (ks : List K) (vs : List V) (cs : List (Subtree K V)) → IsNode b ks vs cs → length ks ≤ 32 → IsCounted (subtree_of b ks vs cs)
+node_counted : {K V : Type 0} (b : Bool) (ks : List K) (vs : List V) (cs : List (Subtree K V)) → IsNode b ks vs cs → length ks ≤ capacity → IsCounted (subtree_of b ks vs cs)
 node_counted false ks vs cs n fits =
     let all = length-pairs ks vs n.kind.1 in
     let parts = length-parts false ks vs cs n in
@@ -35,21 +29,21 @@ node_counted true ks vs cs n fits =
     let parts = length-parts true ks vs cs n in
     let many = length-map cs rows in
     let most = most_rows (height_over cs) cs n.kind.1 in
-    let room = mul-le-mul_left (32 ^ height_over cs) (let le : length cs ≤ 32 = omega arith in le) in
+    let room = mul-le-mul_left (capacity ^ height_over cs) (let le : length cs ≤ capacity = omega arith in le) in
     record {
       least = λ f.
           let all = least_rows (height_over cs) cs n.kind.1 f.below in
           let half = f.half refl in
-          let much = mul-le-mul_left (16 ^ height_over cs) (let le : 16 ≤ length cs = omega arith in le) in
-          omega (arith, pow-suc 16 (height_over cs));
-      most = omega (arith, pow-suc 32 (height_over cs));
+          let much = mul-le-mul_left (half_full ^ height_over cs) (let le : half_full ≤ length cs = omega arith in le) in
+          omega (arith, pow-suc half_full (height_over cs));
+      most = omega (arith, pow-suc capacity (height_over cs));
     }
 
-pub is_counted : {K V : Type 0} (b : Bool) (ks : List K) (vs : List V) (cs : List (Subtree K V)) (s : Subtree K V) → IsNode b ks vs cs → length ks ≤ 32 → subtree_of b ks vs cs ≡ s → IsCounted s
+pub is_counted : {K V : Type 0} (b : Bool) (ks : List K) (vs : List V) (cs : List (Subtree K V)) (s : Subtree K V) → IsNode b ks vs cs → length ks ≤ capacity → subtree_of b ks vs cs ≡ s → IsCounted s
 is_counted {K} {V} b ks vs cs s n fits is = subst (λ (t : Subtree K V). IsCounted t) is (node_counted b ks vs cs n fits)
 
 -- of a root's children the first is off the right edge, and the second has a row
-root_rows : {K V : Type 0} (ks : List K) (cs : List (Subtree K V)) → AllChildren (height_over cs) cs → map Some ks ≡ map first_key (map rows cs) → 1 < length cs → AllFilled true (map fill_of cs) → 16 ^ height_over cs < length (joined (map rows cs))
+root_rows : {K V : Type 0} (ks : List K) (cs : List (Subtree K V)) → AllChildren (height_over cs) cs → map Some ks ≡ map first_key (map rows cs) → 1 < length cs → AllFilled true (map fill_of cs) → half_full ^ height_over cs < length (joined (map rows cs))
 root_rows ks [] a firsts two f = absurd (omega arith)
 root_rows ks (c ∷ []) a firsts two f = absurd (omega arith)
 root_rows [] (c ∷ d ∷ cs) a firsts two f = absurd (cc)
@@ -74,9 +68,9 @@ root_counted true ks vs cs n r =
 pub is_tall : {K V : Type 0} (b : Bool) (ks : List K) (vs : List V) (cs : List (Subtree K V)) (s : Subtree K V) → IsNode b ks vs cs → subtree_of b ks vs cs ≡ s → IsRoot s → IsTall s
 is_tall {K} {V} b ks vs cs s n is r = subst (λ (t : Subtree K V). IsTall t) is (root_counted b ks vs cs n (subst (λ (t : Subtree K V). IsRoot t) (sym is) r))
 
-below_power : (h : ℕ) → h < 16 ^ h
+below_power : (h : ℕ) → h < half_full ^ h
 below_power zero = omega arith
-below_power (suc h) = omega (arith, pow-suc 16 h, below_power h)
+below_power (suc h) = omega (arith, pow-suc half_full h, below_power h)
 
 pub height_below : {K V : Type 0} (s : Subtree K V) → IsTall s → s.height < length (rows s)
 height_below s t = elim (cases_lt 0 s.height) [

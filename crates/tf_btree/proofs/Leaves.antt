@@ -1,22 +1,7 @@
 -- The leaves below one branch, before and behind one of them.
-use Rattle.std.proofs.Common.{◌≡◌, ℕ, zero, suc, List, [], ◌∷◌, ◌++◌, length, map, take, drop, Some, Bool, true, false, refl, sym, ◌∙◌, ap, subst, arith, append_assoc}
-use Rattle.std.specs.declared.boxed.Box.{Box}
-use Rattle.std.proofs.lemmas.List.{take-map, drop-map}
-use Rattle.tf_btree.specs.Subtree.{Subtree, joined, rows}
-use Rattle.tf_btree.specs.Node.{first_key, AllChildren, height_of, parts_of, subtree_of, IsNode, unbox, unboxed}
-use Rattle.tf_btree.specs.Run.{pairs, rows_of, AllLeaves}
-use Rattle.tf_btree.proofs.Entries.{AllChildren-at, leaf_same, length-parts, same_height, same_parts, some_parts}
-use Rattle.tf_btree.proofs.Placed.{leaf_parts}
-
-AllLeaves-take : {K V : Type 0} (n : ℕ) (cs : List (Subtree K V)) → AllLeaves cs → AllLeaves (take n cs)
-AllLeaves-take zero cs a = tt
-AllLeaves-take (suc n) [] a = tt
-AllLeaves-take (suc n) (c ∷ cs) a = (a.0, a.1, AllLeaves-take n cs a.2)
-
-AllLeaves-drop : {K V : Type 0} (n : ℕ) (cs : List (Subtree K V)) → AllLeaves cs → AllLeaves (drop n cs)
-AllLeaves-drop zero cs a = a
-AllLeaves-drop (suc n) [] a = tt
-AllLeaves-drop (suc n) (c ∷ cs) a = AllLeaves-drop n cs a.2
+use Rattle.tf_btree.proofs.Words.{◌≡◌, ℕ, suc, List, [], ◌∷◌, ◌++◌, map, take, drop, Some, Bool, true, false, refl, sym, ◌∙◌, ap, subst, arith, append_assoc, Box, take-append-drop, take-map, drop-map, Subtree, joined, rows, first_key, AllChildren, height_of, parts_of, subtree_of, IsNode, unbox}
+use Rattle.tf_btree.proofs.Words.{unboxed, rows_of, AllLeaves}
+use Rattle.tf_btree.proofs.Entries.{same_height, same_parts, some_parts}
 
 pub AllLeaves-parts : {K V : Type 0} (cs ds : List (Subtree K V)) → AllLeaves (cs ++ ds) → AllLeaves cs × AllLeaves ds
 AllLeaves-parts [] ds a = (tt, a)
@@ -38,7 +23,7 @@ leaves_in (k ∷ ks) (c ∷ cs) e h =
 
 bottom_leaves : {K V : Type 0} (b : Bool) (ks : List K) (vs : List V) (cs : List (Subtree K V)) → b ≡ true → IsNode b ks vs cs → height_of b cs ≡ 1 → AllLeaves cs
 bottom_leaves false ks vs cs e n h = absurd (cc)
-bottom_leaves true ks vs cs e n h = leaves_in ks cs n.first_keys (AllChildren-at 1 _ cs h n.kind.1)
+bottom_leaves true ks vs cs e n h = leaves_in ks cs n.first_keys (rw h at n.kind.1)
 
 branch_parts : {K V : Type 0} (b : Bool) (ks : List K) (vs : List V) (cs : List (Subtree K V)) → b ≡ true → parts_of b ks vs cs ≡ map rows cs
 branch_parts false ks vs cs e = absurd (cc)
@@ -59,32 +44,13 @@ module _ {K V A : Type 0} (b : Bool) (ks : List K) (vs : List V) (bs : List (Box
   taken = sym (take-map (unbox {X = Subtree K V} {Z = A}) n bs)
 
   pub behind_filled : AllLeaves (unboxed (drop n bs))
-  behind_filled = subst (λ (cs : List (Subtree K V)). AllLeaves cs) (sym dropped) (AllLeaves-drop n (unboxed bs) the_leaves)
+  behind_filled = subst (λ (cs : List (Subtree K V)). AllLeaves cs) (sym dropped) (AllLeaves-parts (take n (unboxed bs)) (drop n (unboxed bs)) (rw (take-append-drop n (unboxed bs)) the_leaves)).1
 
   pub before_filled : AllLeaves (unboxed (take n bs))
-  before_filled = subst (λ (cs : List (Subtree K V)). AllLeaves cs) (sym taken) (AllLeaves-take n (unboxed bs) the_leaves)
+  before_filled = subst (λ (cs : List (Subtree K V)). AllLeaves cs) (sym taken) (AllLeaves-parts (take n (unboxed bs)) (drop n (unboxed bs)) (rw (take-append-drop n (unboxed bs)) the_leaves)).0
 
   pub behind_rows : rows_of (unboxed (drop n bs)) ≡ joined (drop n s.parts)
   behind_rows = ap (λ (cs : List (Subtree K V)). rows_of cs) dropped ∙ ap joined (sym (drop-map rows n (unboxed bs)) ∙ ap (λ (ps : List (List (K × V))). drop n ps) the_parts)
 
   pub before_rows : rows_of (unboxed (take n bs)) ≡ joined (take n s.parts)
   before_rows = ap (λ (cs : List (Subtree K V)). rows_of cs) taken ∙ ap joined (sym (take-map rows n (unboxed bs)) ∙ ap (λ (ps : List (List (K × V))). take n ps) the_parts)
-
--- what is as high as a leaf is one
-low_leaf : {K V : Type 0} (b : Bool) (cs : List (Subtree K V)) → height_of b cs ≡ 0 → b ≡ false
-low_leaf false cs h = refl
-low_leaf true [] h = absurd (omega arith)
-low_leaf true (c ∷ cs) h = absurd (omega arith)
-
-module _ {K V : Type 0} (b : Bool) (ks : List K) (vs : List V) (cs : List (Subtree K V)) (s : Subtree K V) (node : IsNode b ks vs cs) (is : subtree_of b ks vs cs ≡ s) (low : s.height ≡ 0) where
-  a_leaf : b ≡ false
-  a_leaf = low_leaf b cs (same_height is ∙ low)
-
-  pub whole_same : length ks ≡ length vs
-  whole_same = (leaf_same b ks vs cs a_leaf node).1
-
-  pub whole_rows : pairs ks vs ≡ rows s
-  whole_rows = ap joined (sym (leaf_parts b ks vs cs a_leaf) ∙ same_parts is)
-
-  pub whole_len : length ks ≡ length s.parts
-  whole_len = sym (length-parts b ks vs cs node) ∙ ap length (same_parts is)

@@ -1,3 +1,5 @@
+pub mod Words
+pub mod Pair
 pub mod Filled
 pub mod Runs
 pub mod Entries

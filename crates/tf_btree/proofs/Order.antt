@@ -1,17 +1,7 @@
 -- Rows in key order: where a key lies among them, and what an edit at that key makes of them.
-use Rattle.std.proofs.Common.{◌≡◌, ℕ, suc, ◌+◌, cond, is_some, length, arith, List, [], ◌∷◌, ◌++◌, Some, None, Option, Bool, true, false, not, refl, sym, ◌∙◌, ap, subst, append_assoc}
-use Rattle.std.specs.Prelude.{filter, find}
-use Rattle.std.specs.Cmp.{IsTotalOrder}
-use Rattle.std.specs.Option.{option_or, option_map}
-use Rattle.std.specs.declared.cmp.Ordering.{Ordering}
-use Rattle.std.specs.declared.cmp.Ordering.TheVariants.{Less, Equal, Greater}
-use Rattle.std.specs.Ordering.{is_lt, is_eq, is_gt, ordering_reverse}
-use Rattle.std.proofs.lemmas.List.{append-nil, length-append}
-use Rattle.std.proofs.lemmas.List.Elements.{filter-append}
-use Rattle.std.proofs.lemmas.List.Folds.{find-append}
-use Rattle.tf_btree.specs.Node.{first_key}
-use Rattle.tf_btree.specs.Place.{AllBefore, AllBeyond, Among}
-use Rattle.tf_btree.specs.Rows.{AllAfter, IsRising, rows_below, rows_above, rows_from, value_at, with_row, without_row}
+use Rattle.tf_btree.proofs.Words.{◌≡◌, ℕ, suc, ◌+◌, ◌<◌, take, drop, get_or, cond, is_some, length, arith, List, [], ◌∷◌, ◌++◌, Some, None, Option, Bool, true, false, not, refl, sym, ◌∙◌, ap, subst, append_assoc, filter, find, IsTotalOrder, option_or, option_map, Ordering, Less, Equal, Greater}
+use Rattle.tf_btree.proofs.Words.{is_lt, is_eq, is_gt, ordering_reverse, append-nil, length-append, filter-append, find-append, joined, first_key, AllKeys, AllBefore, AllBeyond, Among, AllAfter, IsRising, rows_below, rows_above, rows_from, value_at, with_row, without_row}
+use Rattle.tf_btree.proofs.Parts.{joined_split}
 
 -- the order that a test tells
 pub less_is : (o : Ordering) → is_lt o ≡ true → o ≡ Less
@@ -35,37 +25,45 @@ greater_left Equal a b = absurd (let t : true ≡ false = b in cc)
 greater_left Greater a b = refl
 
 module _ {K : Type 0} (cmp : K → K → Ordering) (total : IsTotalOrder cmp) where
-  greater_from_less : (x y : K) → cmp x y ≡ Less → cmp y x ≡ Greater
+  pub greater_from_less : (x y : K) → cmp x y ≡ Less → cmp y x ≡ Greater
   greater_from_less x y e = total.antisymm y x ∙ ap ordering_reverse e
 
   less_from_greater : (x y : K) → cmp x y ≡ Greater → cmp y x ≡ Less
   less_from_greater x y e = total.antisymm y x ∙ ap ordering_reverse e
 
   -- below what is not above k is below k
-  below_upto : (y x k : K) (o : Ordering) → cmp x k ≡ o → is_gt o ≡ false → cmp y x ≡ Less → cmp y k ≡ Less
+  pub below_upto : (y x k : K) (o : Ordering) → cmp x k ≡ o → is_gt o ≡ false → cmp y x ≡ Less → cmp y k ≡ Less
   below_upto y x k Less e h l = total.trans y x k l e
   below_upto y x k Equal e h l = less_from_greater k y (sym (total.congr x k y e) ∙ greater_from_less y x l)
   below_upto y x k Greater e h l = absurd (let t : true ≡ false = h in cc)
 
   -- above what is not below k is above k
-  beyond_from : (f r k : K) (o : Ordering) → cmp f k ≡ o → is_lt o ≡ false → cmp f r ≡ Less → cmp r k ≡ Greater
+  pub beyond_from : (f r k : K) (o : Ordering) → cmp f k ≡ o → is_lt o ≡ false → cmp f r ≡ Less → cmp r k ≡ Greater
   beyond_from f r k Less e h l = absurd (let t : true ≡ false = h in cc)
   beyond_from f r k Equal e h l = greater_from_less k r (sym (total.congr f k r e) ∙ l)
   beyond_from f r k Greater e h l = greater_from_less k r (total.trans k f r (less_from_greater f k e) l)
 
+module _ {K V : Type 0} (P : K → Type 0) where
+  pub AllKeys-append : (xs ys : List (K × V)) → AllKeys P xs → AllKeys P ys → AllKeys P (xs ++ ys)
+  AllKeys-append [] ys a b = b
+  AllKeys-append (x ∷ xs) ys a b = (a.0, AllKeys-append xs ys a.1 b)
+
+  pub AllKeys-right : (xs ys : List (K × V)) → AllKeys P (xs ++ ys) → AllKeys P ys
+  AllKeys-right [] ys a = a
+  AllKeys-right (x ∷ xs) ys a = AllKeys-right xs ys a.1
+
+  pub AllKeys-map : (Q : K → Type 0) → ((q : K) → P q → Q q) → (xs : List (K × V)) → AllKeys P xs → AllKeys Q xs
+  AllKeys-map Q f [] a = tt
+  AllKeys-map Q f (x ∷ xs) a = (f x.0 a.0, AllKeys-map Q f xs a.1)
+
+-- a test that all keys pass, or none, keeps all rows or none
+pub filter-keys : {K V : Type 0} (t : K → Bool) (b : Bool) (xs : List (K × V)) → AllKeys (λ (q : K). t q ≡ b) xs → filter (λ (r : K × V). t r.0) xs ≡ cond b xs []
+filter-keys t true [] a = refl
+filter-keys t false [] a = refl
+filter-keys t true (x ∷ xs) a = rw a.0 (ap (λ r. x ∷ r) (filter-keys t true xs a.1))
+filter-keys t false (x ∷ xs) a = rw a.0 (filter-keys t false xs a.1)
+
 module _ {K V : Type 0} (cmp : K → K → Ordering) where
-  pub AllBefore-append : (k : K) (xs ys : List (K × V)) → AllBefore cmp k xs → AllBefore cmp k ys → AllBefore cmp k (xs ++ ys)
-  AllBefore-append k [] ys a b = b
-  AllBefore-append k (x ∷ xs) ys a b = (a.0, AllBefore-append k xs ys a.1 b)
-
-  pub AllBeyond-append : (k : K) (xs ys : List (K × V)) → AllBeyond cmp k xs → AllBeyond cmp k ys → AllBeyond cmp k (xs ++ ys)
-  AllBeyond-append k [] ys a b = b
-  AllBeyond-append k (x ∷ xs) ys a b = (a.0, AllBeyond-append k xs ys a.1 b)
-
-  pub AllBeyond-right : (k : K) (xs ys : List (K × V)) → AllBeyond cmp k (xs ++ ys) → AllBeyond cmp k ys
-  AllBeyond-right k [] ys a = a
-  AllBeyond-right k (x ∷ xs) ys a = AllBeyond-right k xs ys a.1
-
   AllAfter-left : (k : K) (xs ys : List (K × V)) → AllAfter cmp k (xs ++ ys) → AllAfter cmp k xs
   AllAfter-left k [] ys a = tt
   AllAfter-left k (x ∷ xs) ys a = (a.0, AllAfter-left k xs ys a.1)
@@ -98,37 +96,16 @@ module _ {K V : Type 0} (cmp : K → K → Ordering) where
       (subst (λ (q : K). cmp x.0 q ≡ Less) (first_is y ys f e) at, rising_across xs (y ∷ ys) f h.1 e)
 
   module _ (total : IsTotalOrder cmp) where
-    pub before_upto : (f k : K) (xs : List (K × V)) → is_gt (cmp f k) ≡ false → AllBefore cmp f xs → AllBefore cmp k xs
-    before_upto f k [] h a = tt
-    before_upto f k (x ∷ xs) h a = (below_upto cmp total x.0 f k (cmp f k) refl h a.0, before_upto f k xs h a.1)
-
     pub beyond_after : (f k : K) (xs : List (K × V)) → is_lt (cmp f k) ≡ false → AllAfter cmp f xs → AllBeyond cmp k xs
     beyond_after f k [] h a = tt
     beyond_after f k (x ∷ xs) h a = (beyond_from cmp total f x.0 k (cmp f k) refl h a.0, beyond_after f k xs h a.1)
 
-    -- rows that rise from a key above k are all above k
-    pub rising_beyond : (f k : K) (ys : List (K × V)) → IsRising cmp ys → first_key ys ≡ Some f → is_gt (cmp f k) ≡ true → AllBeyond cmp k ys
-    rising_beyond f k [] h e g = tt
-    rising_beyond f k (y ∷ ys) h e g =
-        let at : is_gt (cmp y.0 k) ≡ true = subst (λ (q : K). is_gt (cmp q k) ≡ true) (sym (first_is y ys f e)) g in
-        let above = greater_is (cmp y.0 k) at in (above, beyond_after y.0 k ys (rw above refl) h.0)
-
-  either_way : (b : Bool) (xs : List (K × V)) → xs ≡ cond b xs xs
-  either_way true xs = refl
-  either_way false xs = refl
-
-  one_more : (b : Bool) (x : K × V) (xs ys : List (K × V)) → ys ≡ cond b xs [] → cond b (x ∷ ys) ys ≡ cond b (x ∷ xs) []
-  one_more true x xs ys e = ap (λ r. x ∷ r) e
-  one_more false x xs ys e = e
-
   -- a test on the order of a row's key and k passes all rows before k or none, and so beyond it
   pub tested-before : (p : Ordering → Bool) (k : K) (xs : List (K × V)) → AllBefore cmp k xs → filter (λ (r : K × V). p (cmp r.0 k)) xs ≡ cond (p Less) xs []
-  tested-before p k [] a = either_way (p Less) []
-  tested-before p k (x ∷ xs) a = rw a.0 (one_more (p Less) x xs _ (tested-before p k xs a.1))
+  tested-before p k xs a = filter-keys (λ (q : K). p (cmp q k)) (p Less) xs (AllKeys-map _ _ (λ q e. ap p e) xs a)
 
   pub tested-beyond : (p : Ordering → Bool) (k : K) (xs : List (K × V)) → AllBeyond cmp k xs → filter (λ (r : K × V). p (cmp r.0 k)) xs ≡ cond (p Greater) xs []
-  tested-beyond p k [] a = either_way (p Greater) []
-  tested-beyond p k (x ∷ xs) a = rw a.0 (one_more (p Greater) x xs _ (tested-beyond p k xs a.1))
+  tested-beyond p k xs a = filter-keys (λ (q : K). p (cmp q k)) (p Greater) xs (AllKeys-map _ _ (λ q e. ap p e) xs a)
 
   find-before : (k : K) (xs : List (K × V)) → AllBefore cmp k xs → find (λ (r : K × V). is_eq (cmp r.0 k)) xs ≡ None
   find-before k [] a = refl
@@ -181,22 +158,10 @@ module _ {K V : Type 0} (cmp : K → K → Ordering) where
       let p = λ (r : K × V). not (is_lt (cmp r.0 k)) in
       filter-append p a d ∙ ap (λ r. r ++ filter p d) (tested-before (λ o. not (is_lt o)) k a h)
 
-  -- what is among no row, and among one of the same key
-  pub with_row-gap : (k : K) (v : V) (a c : List (K × V)) → Among cmp k a c → with_row cmp k v (a ++ c) ≡ a ++ (k, v) ∷ c
-  with_row-gap k v a c h = with_row-among k a [] c h v
+  pub rows_from_all : (k : K) (d : List (K × V)) → AllKeys (λ (q : K). is_lt (cmp q k) ≡ false) d → rows_from cmp k d ≡ d
+  rows_from_all k d a = filter-keys (λ (q : K). not (is_lt (cmp q k))) true d (AllKeys-map _ _ (λ q e. ap not e) d a)
 
-  pub without_row-gap : (k : K) (a c : List (K × V)) → Among cmp k a c → without_row cmp k (a ++ c) ≡ a ++ c
-  without_row-gap k a c h = without_row-among k a [] c h
-
-  pub value_at-gap : (k : K) (a c : List (K × V)) → Among cmp k a c → value_at cmp k (a ++ c) ≡ None
-  value_at-gap k a c h = value_at-among k a [] c h
-
-  pub with_row-at : (k q : K) (v w : V) (a c : List (K × V)) → Among cmp k a c → cmp q k ≡ Equal → with_row cmp k v (a ++ (q, w) ∷ c) ≡ a ++ (k, v) ∷ c
-  with_row-at k q v w a c h e = with_row-among k a ((q, w) ∷ []) c h v ∙ rw e refl
-
-  pub without_row-at : (k q : K) (w : V) (a c : List (K × V)) → Among cmp k a c → cmp q k ≡ Equal → without_row cmp k (a ++ (q, w) ∷ c) ≡ a ++ c
-  without_row-at k q w a c h e = without_row-among k a ((q, w) ∷ []) c h ∙ rw e refl
-
+  -- the value of a key among the others
   pub value_at-at : (k q : K) (w : V) (a c : List (K × V)) → Among cmp k a c → cmp q k ≡ Equal → value_at cmp k (a ++ (q, w) ∷ c) ≡ Some w
   value_at-at k q w a c h e = value_at-among k a ((q, w) ∷ []) c h ∙ rw e refl
 
@@ -276,3 +241,9 @@ module _ {K V : Type 0} (cmp : K → K → Ordering) where
     pub length-without_row : (k : K) (xs : List (K × V)) → IsRising cmp xs → length (without_row cmp k xs) + cond (is_some (value_at cmp k xs)) 1 0 ≡ length xs
     unfolding Sided
     length-without_row k xs h = let e = sides k xs h in let l = length-append (rows_below cmp k xs) (rows_above cmp k xs) in omega arith
+
+-- the rows of an entry rise where all do
+pub rising_entry : {K V : Type 0} (cmp : K → K → Ordering) (ps : List (List (K × V))) (i : ℕ) → i < length ps → IsRising cmp (joined ps) → IsRising cmp (get_or ps i [])
+rising_entry {K} {V} cmp ps i lt rising =
+    let at : IsRising cmp (joined (take i ps) ++ (get_or ps i [] ++ joined (drop (suc i) ps))) = subst (λ (r : List (K × V)). IsRising cmp r) (joined_split ps i [] lt) rising in
+    IsRising-left cmp (get_or ps i []) (joined (drop (suc i) ps)) (IsRising-right cmp (joined (take i ps)) _ at)

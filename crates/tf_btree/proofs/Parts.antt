@@ -1,8 +1,6 @@
 -- Lists of lists: where an entry's rows lie among all.
-use Rattle.std.proofs.Common.{◌≡◌, ℕ, zero, suc, ◌-◌, ◌<◌, ◌≤◌, List, [], ◌∷◌, ◌++◌, length, take, drop, set, get_or, refl, sym, ◌∙◌, ap, arith, append_assoc}
+use Rattle.tf_btree.proofs.Words.{◌≡◌, ℕ, zero, suc, ◌-◌, ◌<◌, ◌≤◌, List, [], ◌∷◌, ◌++◌, length, take, drop, set, get_or, refl, sym, ◌∙◌, ap, arith, append_assoc, set_split, take-append-drop, length-take-le, insert-append_left, insert-append_right, joined}
 use Rattle.std.specs.List.{insert, remove}
-use Rattle.std.proofs.lemmas.List.{set_split}
-use Rattle.tf_btree.specs.Subtree.{joined}
 
 pub joined-append : {X : Type 0} (ps qs : List (List X)) → joined (ps ++ qs) ≡ joined ps ++ joined qs
 joined-append [] qs = refl
@@ -29,24 +27,12 @@ joined-insert ps i p = joined-append (take i ps) (p ∷ drop i ps)
 pub joined-remove : {X : Type 0} (ps : List (List X)) (i : ℕ) → joined (remove ps i) ≡ joined (take i ps) ++ joined (drop (suc i) ps)
 joined-remove ps i = joined-append (take i ps) (drop (suc i) ps)
 
--- an entry put into the first of two parts
-pub joined-insert_left : {X : Type 0} (ps : List (List X)) (m i : ℕ) (p : List X) → i ≤ m → joined (insert (take m ps) i p) ++ joined (drop m ps) ≡ joined (insert ps i p)
-joined-insert_left ps m zero p le = append_assoc p (joined (take m ps)) (joined (drop m ps)) ∙ ap (λ r. p ++ r) (sym (joined-take-drop m ps))
-joined-insert_left ps zero (suc i) p le = absurd (omega arith)
-joined-insert_left [] (suc m) (suc i) p le = append_assoc p [] []
-joined-insert_left (q ∷ ps) (suc m) (suc i) p le = append_assoc q _ _ ∙ ap (λ r. q ++ r) (joined-insert_left ps m i p (omega arith))
+-- a list with one more in the first of two parts, or in the second
+pub insert_left : {X : Type 0} (xs : List X) (m i : ℕ) (x : X) → i ≤ m → m ≤ length xs → insert (take m xs) i x ++ drop m xs ≡ insert xs i x
+insert_left {X} xs m i x le within = let long = length-take-le m xs within in sym (insert-append_left (take m xs) (drop m xs) i x (omega arith)) ∙ ap (λ (ys : List X). insert ys i x) (take-append-drop m xs)
 
--- and into the second
-pub joined-insert_right : {X : Type 0} (ps : List (List X)) (m i : ℕ) (p : List X) → m ≤ i → joined (take m ps) ++ joined (insert (drop m ps) (i - m) p) ≡ joined (insert ps i p)
-joined-insert_right ps zero i p le = let e : i - 0 ≡ i = omega arith in rw e refl
-joined-insert_right [] (suc m) zero p le = absurd (omega arith)
-joined-insert_right [] (suc m) (suc i) p le = nothing (suc i - suc m) i p
-  where
-    nothing : {X : Type 0} (a b : ℕ) (q : List X) → joined (insert [] a q) ≡ joined (insert [] (suc b) q)
-    nothing zero b q = refl
-    nothing (suc a) b q = refl
-joined-insert_right (q ∷ ps) (suc m) zero p le = absurd (omega arith)
-joined-insert_right (q ∷ ps) (suc m) (suc i) p le = let e : suc i - suc m ≡ i - m = omega arith in rw e (append_assoc q _ _ ∙ ap (λ r. q ++ r) (joined-insert_right ps m i p (omega arith)))
+pub insert_right : {X : Type 0} (xs : List X) (m i : ℕ) (x : X) → m ≤ i → m ≤ length xs → take m xs ++ insert (drop m xs) (i - m) x ≡ insert xs i x
+insert_right {X} xs m i x le within = sym (insert-append_right (take m xs) (drop m xs) m i x (length-take-le m xs within) le) ∙ ap (λ (ys : List X). insert ys i x) (take-append-drop m xs)
 
 pub joined-insert_none : {X : Type 0} (ps : List (List X)) (i : ℕ) → joined (insert ps i []) ≡ joined ps
 joined-insert_none ps i = joined-insert ps i [] ∙ sym (joined-take-drop i ps)

@@ -1,93 +1,32 @@
 -- Runs of rows: the first rows from a key on, and what follows them.
-use Rattle.std.proofs.Common.{◌≡◌, ℕ, suc, ◌+◌, ◌-◌, ◌<◌, ◌≤◌, List, [], ◌∷◌, ◌++◌, length, map, take, drop, get_or, Some, None, Option, IsSome, Bool, true, false, not, refl, sym, ◌∙◌, ap, subst, arith, inl, inr, append_assoc}
-use Rattle.std.specs.Cmp.{IsTotalOrder}
-use Rattle.std.specs.Option.{option_or}
-use Rattle.std.specs.declared.cmp.Ordering.{Ordering}
-use Rattle.std.specs.declared.cmp.Ordering.TheVariants.{Equal}
-use Rattle.std.specs.Ordering.{is_lt}
-use Rattle.std.proofs.lemmas.Bool.{cases_lt}
-use Rattle.std.proofs.lemmas.List.{append-nil, length-drop, drop_all}
-use Rattle.tf_btree.specs.Subtree.{Subtree, joined, rows}
-use Rattle.tf_btree.specs.Node.{first_key, single_rows, subtree_of, IsNode}
-use Rattle.tf_btree.specs.Rows.{IsRising, rows_from, value_at}
-use Rattle.tf_btree.specs.Place.{AllBefore, IsBelow}
-use Rattle.tf_btree.specs.Run.{pairs, rows_of, AllLeaves, IsRunFrom, rows_after}
-use Rattle.tf_btree.specs.Cursor.{IsKeyOf}
-use Rattle.std.proofs.lemmas.Cmp.{tied_itself}
-use Rattle.tf_btree.proofs.Runs.{drop-single_rows, same_drop, length-single_rows}
-use Rattle.tf_btree.proofs.Entries.{leaf_same, same_parts}
-use Rattle.tf_btree.proofs.Order.{IsRising-right, rising_across, beyond_after, tested-beyond, from-among, value_at-at, from_before_all}
-use Rattle.tf_btree.proofs.Placed.{leaf_before, leaf_gap, leaf_parts, joined_first, value_gap}
-use Rattle.tf_btree.proofs.Parts.{joined-take-drop, joined_split}
+use Rattle.tf_btree.proofs.Words.{◌≡◌, ℕ, suc, ◌+◌, ◌-◌, ◌<◌, ◌≤◌, List, [], ◌∷◌, ◌++◌, length, take, drop, get_or, Some, None, Option, IsSome, Bool, true, false, refl, sym, ◌∙◌, ap, subst, arith, inl, inr, append_assoc, IsTotalOrder, option_or, Ordering, Equal, is_lt, cases_lt, append-nil}
+use Rattle.tf_btree.proofs.Words.{length-drop, tied_itself, Subtree, joined, rows, first_key, subtree_of, IsNode, IsRising, rows_from, value_at, IsBelow, pairs, rows_of, AllLeaves, IsRunFrom, rows_after, IsKeyOf}
+use Rattle.tf_btree.proofs.Runs.{same_drop}
+use Rattle.tf_btree.proofs.Entries.{leaf_same}
+use Rattle.tf_btree.proofs.Order.{IsRising-right, rising_across, beyond_after, from-among, value_at-at, from_before_all, rows_from_all}
+use Rattle.tf_btree.proofs.Placed.{node_from, node_gap, rows_high, value_gap}
+use Rattle.tf_btree.proofs.Parts.{joined_split}
 
-nothing_first : {K V : Type 0} (d : List (K × V)) (f : K) → d ≡ [] → first_key d ≡ Some f → ⊥
-nothing_first {K} {V} d f none e = let h : None ≡ Some f = subst (λ (r : List (K × V)). first_key r ≡ Some f) none e in cc
+module _ {K V : Type 0} (cmp : K → K → Ordering) (total : IsTotalOrder cmp) (k : K) (b : Bool) (ks : List K) (vs : List V) (cs : List (Subtree K V)) (s : Subtree K V) (node : IsNode b ks vs cs) (is : subtree_of b ks vs cs ≡ s) (leaf : b ≡ false) (rising : IsRising cmp (rows s))
+    (n : ℕ) (le : n ≤ length ks) (before : (d : K) → 0 < n → is_lt (cmp (get_or ks (n - 1) d) k) ≡ true) (after : (d : K) → n < length ks → is_lt (cmp (get_or ks n d) k) ≡ false) where
+  pub leaf_run_from : IsRunFrom cmp k (rows s) (drop n ks) (drop n vs) [] None
+  leaf_run_from = record {
+    same = same_drop n ks vs (leaf_same b ks vs cs leaf node).1;
+    filled = tt;
+    front = rows s;
+    back = [];
+    split = sym (append-nil (rows s));
+    begins = refl;
+    all = node_from cmp total k b ks vs cs s node is rising leaf n before le after ∙ sym (append-nil (pairs (drop n ks) (drop n vs))) ∙ sym (append-nil (pairs (drop n ks) (drop n vs) ++ []));
+  }
 
-module _ {K V : Type 0} (cmp : K → K → Ordering) (total : IsTotalOrder cmp) (k : K) where
-  -- rows that rise from a key not below k
-  from_all : (d : List (K × V)) → IsRising cmp d → ((f : K) → first_key d ≡ Some f → is_lt (cmp f k) ≡ false) → rows_from cmp k d ≡ d
-  from_all [] h first = refl
-  from_all (y ∷ ys) h first =
-      let at : is_lt (cmp y.0 k) ≡ false = first y.0 refl in
-      rw at (ap (λ (r : List (K × V)). y ∷ r) (tested-beyond cmp (λ o. not (is_lt o)) k ys (beyond_after cmp total y.0 k ys at h.0)))
-
-  -- the rows behind a place where the keys are no longer below k
-  from_place : (a d : List (K × V)) → IsRising cmp (a ++ d) → AllBefore cmp k a → ((f : K) → first_key d ≡ Some f → is_lt (cmp f k) ≡ false) → rows_from cmp k (a ++ d) ≡ d
-  from_place a d h before first = from_before_all cmp k a d before ∙ from_all d (IsRising-right cmp a d h) first
-
-  module _ (b : Bool) (ks : List K) (vs : List V) (cs : List (Subtree K V)) (s : Subtree K V) (node : IsNode b ks vs cs) (is : subtree_of b ks vs cs ≡ s) (leaf : b ≡ false) (rising : IsRising cmp (rows s))
-      (n : ℕ) (le : n ≤ length ks) (before : (d : K) → 0 < n → is_lt (cmp (get_or ks (n - 1) d) k) ≡ true) (after : (d : K) → n < length ks → is_lt (cmp (get_or ks n d) k) ≡ false) where
-    the_rows : rows s ≡ pairs ks vs
-    the_rows = ap joined (sym (same_parts is) ∙ leaf_parts b ks vs cs leaf)
-
-    inside : IsRising cmp (joined (single_rows ks vs))
-    inside = subst (λ (r : List (K × V)). IsRising cmp r) the_rows rising
-
-    firsts : map Some ks ≡ map first_key (single_rows ks vs)
-    firsts = node.first_keys ∙ ap (map first_key) (leaf_parts b ks vs cs leaf)
-
-    same : length ks ≡ length vs
-    same = (leaf_same b ks vs cs leaf node).1
-
-    first_behind : (f : K) → first_key (joined (drop n (single_rows ks vs))) ≡ Some f → is_lt (cmp f k) ≡ false
-    first_behind f e = elim (cases_lt n (length ks)) [
-      | inl lt ↦ let at : Some (get_or ks n f) ≡ Some f = sym (joined_first ks (single_rows ks vs) n f firsts lt) ∙ e in
-          let same : get_or ks n f ≡ f = cc in
-          subst (λ (q : K). is_lt (cmp q k) ≡ false) same (after f lt)
-      | inr ge ↦ absurd (
-          let long = length-single_rows ks vs same in
-          let none : drop n (single_rows ks vs) ≡ [] = drop_all n (single_rows ks vs) (omega arith) in
-          nothing_first (joined (drop n (single_rows ks vs))) f (ap joined none) e)
-    ]
-
-    pub leaf_run_from : IsRunFrom cmp k (rows s) (drop n ks) (drop n vs) [] None
-    leaf_run_from =
-        let split = joined-take-drop n (single_rows ks vs) in
-        let at : IsRising cmp (joined (take n (single_rows ks vs)) ++ joined (drop n (single_rows ks vs))) = subst (λ (r : List (K × V)). IsRising cmp r) split inside in
-        record {
-          same = same_drop n ks vs same;
-          filled = tt;
-          front = rows s;
-          back = [];
-          split = sym (append-nil (rows s));
-          begins = refl;
-          all = ap (λ (r : List (K × V)). rows_from cmp k r) (the_rows ∙ split)
-              ∙ from_place (joined (take n (single_rows ks vs))) (joined (drop n (single_rows ks vs))) at (leaf_before cmp total k ks vs same firsts inside n k le (before k)) first_behind
-              ∙ ap joined (sym (drop-single_rows n ks vs)) ∙ sym (append-nil (pairs (drop n ks) (drop n vs))) ∙ sym (append-nil (pairs (drop n ks) (drop n vs) ++ []));
-        }
-
-    pub leaf_run_some : IsSome (value_at cmp k (rows s)) → 0 < length (drop n ks)
-    leaf_run_some some = elim (cases_lt n (length ks)) [
-      | inl lt ↦ omega (arith, length-drop n ks)
-      | inr ge ↦ absurd (
-          let gap = leaf_gap cmp total k ks vs same firsts inside n k le (before k) (λ lt. absurd (omega arith)) in
-          let none : value_at cmp k (rows s) ≡ None = ap (λ (r : List (K × V)). value_at cmp k r) the_rows ∙ value_gap cmp k (single_rows ks vs) n gap in
-          no_value (value_at cmp k (rows s)) none some)
-    ]
-      where
-        no_value : (o : Option V) → o ≡ None → IsSome o → ⊥
-        no_value None e h = let t : false ≡ true = h in cc
-        no_value (Some x) e h = let t : Some x ≡ None = e in cc
+  pub leaf_run_some : IsSome (value_at cmp k (rows s)) → 0 < length (drop n ks)
+  leaf_run_some some = elim (cases_lt n (length ks)) [
+    | inl lt ↦ omega (arith, length-drop n ks)
+    | inr ge ↦ absurd (
+        let none = value_gap cmp k s.parts n (node_gap cmp total k b ks vs cs s node is rising leaf n before le (λ lt. absurd (omega arith))) in
+        let t : false ≡ true = rw none at some in cc)
+  ]
 
 first_key-or : {K V : Type 0} (p r : List (K × V)) → first_key (p ++ r) ≡ option_or (first_key p) (first_key r)
 first_key-or [] r = refl
@@ -147,9 +86,9 @@ behind_facts {K} {V} cmp total front (y ∷ ys) (Some k) h e =
     let right = IsRising-right cmp front (y ∷ ys) h in
     let tied : cmp k k ≡ Equal = tied_itself total k in
     let equal : cmp y.0 k ≡ Equal = subst (λ (q : K). cmp q k ≡ Equal) (sym same) tied in
-    let upto : is_lt (cmp y.0 k) ≡ false = rw equal refl in
-    let at = value_at-at cmp k y.0 y.1 front ys (record { before = before; beyond = beyond_after cmp total y.0 k ys upto right.0 }) equal in (
-      from_place cmp total k front (y ∷ ys) h before (λ f g. let first : Some y.0 ≡ Some f = g in let to : y.0 ≡ f = cc in subst (λ (q : K). is_lt (cmp q k) ≡ false) to upto),
+    let upto : is_lt (cmp k k) ≡ false = rw tied refl in
+    let at = value_at-at cmp k y.0 y.1 front ys (record { before = before; beyond = beyond_after cmp total y.0 k ys (rw equal refl) right.0 }) equal in (
+      from_before_all cmp k front (y ∷ ys) before ∙ rows_from_all cmp k (y ∷ ys) (rows_high cmp total k k (y ∷ ys) right e upto),
       subst (λ (o : Option V). IsSome o) (sym at) refl,
     )
 

@@ -1,10 +1,6 @@
 -- What an edit of a node's runs makes of its entries.
-use Rattle.std.proofs.Common.{◌≡◌, ℕ, zero, suc, ◌<◌, List, [], ◌∷◌, ◌++◌, length, map, take, drop, Some, refl, sym, ◌∙◌, ap, subst, arith}
+use Rattle.tf_btree.proofs.Words.{◌≡◌, ℕ, zero, suc, ◌<◌, List, [], ◌∷◌, ◌++◌, length, map, take, drop, set, get_or, Some, false, refl, sym, ap, subst, arith, length-append, length-take, length-drop, Subtree, pairs, IsNode, first_key, single_rows, IsChild, AllChildren, height_over}
 use Rattle.std.specs.List.{insert, remove}
-use Rattle.std.proofs.lemmas.List.{map-append, take-map, drop-map, length-append, length-take, length-drop}
-use Rattle.tf_btree.specs.Subtree.{Subtree}
-use Rattle.tf_btree.specs.Run.{pairs}
-use Rattle.tf_btree.specs.Node.{first_key, single_rows, AllChildren, height_over}
 
 pub single_rows-append : {K V : Type 0} (ks ls : List K) (vs ws : List V) → length ks ≡ length vs → single_rows (ks ++ ls) (vs ++ ws) ≡ single_rows ks vs ++ single_rows ls ws
 single_rows-append [] ls [] ws e = refl
@@ -66,19 +62,18 @@ remove-single_rows ks vs i e =
     let b = drop-single_rows (suc i) ks vs in
     cc
 
-pub map-insert : {X Y : Type 0} (f : X → Y) (xs : List X) (i : ℕ) (x : X) → map f (insert xs i x) ≡ insert (map f xs) i (f x)
-map-insert f xs i x =
-    let e = map-append f (take i xs) (x ∷ drop i xs) in
-    let a = take-map f i xs in
-    let b = drop-map f i xs in
-    cc
+pub set-single_rows : {K V : Type 0} (ks : List K) (vs : List V) (i : ℕ) (k : K) (v : V) → length ks ≡ length vs → single_rows (set ks i k) (set vs i v) ≡ set (single_rows ks vs) i ((k, v) ∷ [])
+set-single_rows [] [] i k v e = refl
+set-single_rows [] (y ∷ vs) i k v e = absurd (omega arith)
+set-single_rows (x ∷ ks) [] i k v e = absurd (omega arith)
+set-single_rows (x ∷ ks) (y ∷ vs) zero k v e = refl
+set-single_rows (x ∷ ks) (y ∷ vs) (suc i) k v e = ap (λ r. ((x, y) ∷ []) ∷ r) (set-single_rows ks vs i k v (omega arith))
 
-pub map-remove : {X Y : Type 0} (f : X → Y) (xs : List X) (i : ℕ) → map f (remove xs i) ≡ remove (map f xs) i
-map-remove f xs i =
-    let e = map-append f (take i xs) (drop (suc i) xs) in
-    let a = take-map f i xs in
-    let b = drop-map f (suc i) xs in
-    cc
+pub single_is : {K V : Type 0} (ks : List K) (vs : List V) (i : ℕ) (d : K) (e : V) → length ks ≡ length vs → i < length ks → get_or (single_rows ks vs) i [] ≡ (get_or ks i d, get_or vs i e) ∷ []
+single_is [] vs i d e same lt = absurd (omega arith)
+single_is (k ∷ ks) [] i d e same lt = absurd (omega arith)
+single_is (k ∷ ks) (v ∷ vs) zero d e same lt = refl
+single_is (k ∷ ks) (v ∷ vs) (suc i) d e same lt = single_is ks vs i d e (omega arith) (omega arith)
 
 pub AllChildren-append : {K V : Type 0} (h : ℕ) (cs ds : List (Subtree K V)) → AllChildren h cs → AllChildren h ds → AllChildren h (cs ++ ds)
 AllChildren-append h [] ds a b = b
@@ -94,6 +89,22 @@ AllChildren-drop h zero cs a = a
 AllChildren-drop h (suc n) [] a = tt
 AllChildren-drop h (suc n) (c ∷ cs) a = AllChildren-drop h n cs a.1
 
+pub AllChildren-insert : {K V : Type 0} (h : ℕ) (cs : List (Subtree K V)) (i : ℕ) (c : Subtree K V) → AllChildren h cs → IsChild h c → AllChildren h (insert cs i c)
+AllChildren-insert h cs i c a e = AllChildren-append h (take i cs) (c ∷ drop i cs) (AllChildren-take h i cs a) (e, AllChildren-drop h i cs a)
+
+pub AllChildren-remove : {K V : Type 0} (h : ℕ) (cs : List (Subtree K V)) (i : ℕ) → AllChildren h cs → AllChildren h (remove cs i)
+AllChildren-remove h cs i a = AllChildren-append h (take i cs) (drop (suc i) cs) (AllChildren-take h i cs a) (AllChildren-drop h (suc i) cs a)
+
+pub AllChildren-set : {K V : Type 0} (h : ℕ) (cs : List (Subtree K V)) (i : ℕ) (c : Subtree K V) → AllChildren h cs → IsChild h c → AllChildren h (set cs i c)
+AllChildren-set h [] i c a e = tt
+AllChildren-set h (x ∷ cs) zero c a e = (e, a.1)
+AllChildren-set h (x ∷ cs) (suc i) c a e = (a.0, AllChildren-set h cs i c a.1 e)
+
+pub AllChildren-get_or : {K V : Type 0} (h : ℕ) (cs : List (Subtree K V)) (i : ℕ) (d : Subtree K V) → AllChildren h cs → i < length cs → suc (get_or cs i d).height ≡ h
+AllChildren-get_or h [] i d a lt = absurd (omega arith)
+AllChildren-get_or h (c ∷ cs) zero d a lt = a.0.level
+AllChildren-get_or h (c ∷ cs) (suc i) d a lt = AllChildren-get_or h cs i d a.1 (omega arith)
+
 -- children have that height over them, unless there is none
 pub height_over-high : {K V : Type 0} (h : ℕ) (cs : List (Subtree K V)) → AllChildren h cs → 0 < length cs → height_over cs ≡ h
 height_over-high h [] a some = absurd (omega arith)
@@ -104,13 +115,10 @@ pub AllChildren-own : {K V : Type 0} (h : ℕ) (cs : List (Subtree K V)) → All
 AllChildren-own h [] a = tt
 AllChildren-own h (c ∷ cs) a = subst (λ (m : ℕ). AllChildren m (c ∷ cs)) (sym a.0.level) a
 
--- no elements have none among the first, and none behind them
-pub take_none : {X : Type 0} (n : ℕ) (xs : List X) → xs ≡ [] → xs ≡ take n xs
-take_none zero xs e = e
-take_none (suc n) [] e = refl
-take_none (suc n) (x ∷ xs) e = absurd (cc)
+-- a value for each key makes a leaf
+pub leaf_node : {K V : Type 0} (ks : List K) (vs : List V) (cs : List (Subtree K V)) → cs ≡ [] → length ks ≡ length vs → IsNode false ks vs cs
+leaf_node ks vs cs none same = record { kind = (none, same); first_keys = single_rows-first ks vs same }
 
-pub drop_none : {X : Type 0} (n : ℕ) (xs ys : List X) → xs ≡ [] → ys ≡ [] → ys ≡ drop n xs
-drop_none zero xs ys e f = f ∙ sym e
-drop_none (suc n) [] ys e f = f
-drop_none (suc n) (x ∷ xs) ys e f = absurd (cc)
+-- what an entry with one row gives, read in two ways
+pub entry_value : {K V : Type 0} (p : List (K × V)) (r : K × V) (q : K) (w : V) → p ≡ r ∷ [] → p ≡ (q, w) ∷ [] → r.1 ≡ w
+entry_value p r q w read here = let both : r ≡ (q, w) = cc in ap (λ s. s.1) both

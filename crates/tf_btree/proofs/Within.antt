@@ -1,49 +1,19 @@
 -- Runs of rows that end at some key, and what lies before them.
-use Rattle.std.proofs.Common.{◌≡◌, ℕ, zero, suc, ◌+◌, ◌-◌, ◌<◌, ◌≤◌, List, [], ◌∷◌, ◌++◌, length, map, take, drop, get_or, Some, None, Option, Bool, true, false, not, refl, sym, ◌∙◌, ap, subst, arith, inl, inr, append_assoc}
-use Rattle.std.specs.Prelude.{filter, reverse}
-use Rattle.std.specs.Cmp.{IsTotalOrder}
-use Rattle.std.proofs.lemmas.Cmp.{tied_itself}
-use Rattle.std.specs.Option.{option_or}
-use Rattle.std.specs.declared.cmp.Ordering.{Ordering}
-use Rattle.std.specs.declared.cmp.Ordering.TheVariants.{Less, Equal, Greater}
-use Rattle.std.specs.declared.ops.Bound.{Bound}
-use Rattle.std.specs.declared.ops.Bound.TheVariants.{Included, Excluded, Unbounded}
-use Rattle.std.specs.Ordering.{is_lt, is_gt, ordering_reverse}
-use Rattle.std.proofs.lemmas.Bool.{cases_lt}
-use Rattle.std.proofs.lemmas.List.{append-nil, drop_all, length-append, reverse-append, take_all, take_more}
-use Rattle.std.proofs.lemmas.List.Elements.{filter-append}
-use Rattle.tf_btree.specs.Subtree.{Subtree, joined, rows}
-use Rattle.tf_btree.specs.Node.{first_key, single_rows, parts_of, subtree_of, IsNode}
-use Rattle.tf_btree.specs.Rows.{AllAfter, IsRising, rows_below}
-use Rattle.tf_btree.specs.Place.{AllBefore}
-use Rattle.tf_btree.specs.Run.{pairs, rows_of, AllLeaves}
-use Rattle.tf_btree.specs.RunBack.{is_within, rows_to, rows_before, HasBefore, IsCut, IsRunTo, IsRunBefore, IsLastWithin}
+use Rattle.tf_btree.proofs.Words.{◌≡◌, ℕ, zero, suc, ◌+◌, ◌-◌, ◌<◌, ◌≤◌, List, [], ◌∷◌, ◌++◌, length, map, take, drop, get_or, Some, None, Option, Bool, true, false, refl, sym, ◌∙◌, ap, subst, arith, inl, inr, append_assoc, filter, reverse, IsTotalOrder, tied_itself, option_or, Ordering, Less}
+use Rattle.tf_btree.proofs.Words.{Equal, Bound, Included, Excluded, Unbounded, is_lt, is_gt, cases_lt, not-true, same_Some, append-nil, length-append, reverse-append, take_all, take_more, filter-append, Subtree, joined, rows, first_key, single_rows, parts_of, subtree_of, IsNode, IsRising}
+use Rattle.tf_btree.proofs.Words.{rows_below, AllKeys, pairs, rows_of, AllLeaves, is_within, rows_to, rows_before, HasBefore, IsCut, IsRunTo, IsRunBefore, IsLastWithin}
 use Rattle.tf_btree.proofs.Runs.{length-pairs, take-single_rows, same_take, single_rows-append}
-use Rattle.tf_btree.proofs.Entries.{get_or-first, leaf_same, same_parts, length-seen}
+use Rattle.tf_btree.proofs.Entries.{leaf_parts, get_or-first, same_parts, length-seen}
 use Rattle.tf_btree.proofs.Leaves.{rows_of-append, AllLeaves-parts}
-use Rattle.tf_btree.proofs.Order.{IsRising-right, rising_across, tested-before}
+use Rattle.tf_btree.proofs.Order.{below_upto, less_is, IsRising-right, rising_across, AllKeys-map, filter-keys}
 use Rattle.tf_btree.proofs.Parts.{joined-append, joined-take-drop, joined_split}
-use Rattle.tf_btree.proofs.Placed.{same_length, joined-drop, joined-take_more, joined_first, first_key-append, behind_some, leaf_parts}
+use Rattle.tf_btree.proofs.Placed.{joined-drop, first_key-append, behind_some, high_from, high_behind, between, leaf_low}
 
 module _ {K : Type 0} (cmp : K → K → Ordering) (total : IsTotalOrder cmp) where
-  less_upto : (x y k : K) (o : Ordering) → cmp y k ≡ o → not (is_gt o) ≡ true → cmp x y ≡ Less → not (is_gt (cmp x k)) ≡ true
-  less_upto x y k Less e h l = let t = total.trans x y k l e in rw t refl
-  less_upto x y k Equal e h l =
-      let greater : cmp y x ≡ Greater = total.antisymm y x ∙ ap ordering_reverse l in
-      let above : cmp k x ≡ Greater = sym (total.congr y k x e) ∙ greater in
-      let less : cmp x k ≡ Less = total.antisymm x k ∙ ap ordering_reverse above in
-      rw less refl
-  less_upto x y k Greater e h l = absurd (let t : false ≡ true = h in cc)
-
-  less_below : (x y k : K) (o : Ordering) → cmp y k ≡ o → is_lt o ≡ true → cmp x y ≡ Less → is_lt (cmp x k) ≡ true
-  less_below x y k Less e h l = let t = total.trans x y k l e in rw t refl
-  less_below x y k Equal e h l = absurd (let t : false ≡ true = h in cc)
-  less_below x y k Greater e h l = absurd (let t : false ≡ true = h in cc)
-
   -- what is less than a key within an end is within it too
   less_within : (end : Bound K) (x y : K) → is_within cmp end y ≡ true → cmp x y ≡ Less → is_within cmp end x ≡ true
-  less_within (Included k) x y h l = less_upto x y k (cmp y k) refl h l
-  less_within (Excluded k) x y h l = less_below x y k (cmp y k) refl h l
+  less_within (Included k) x y h l = rw (below_upto cmp total x y k (cmp y k) refl (not-true (is_gt (cmp y k)) h) l) refl
+  less_within (Excluded k) x y h l = rw (total.trans x y k l (less_is (cmp y k) h)) refl
   less_within Unbounded x y h l = refl
 
 filter_true : {X : Type 0} (xs : List X) → filter (λ (x : X). true) xs ≡ xs
@@ -56,151 +26,70 @@ rows_to-filter cmp (Included k) xs = refl
 rows_to-filter cmp (Excluded k) xs = refl
 rows_to-filter cmp Unbounded xs = sym (filter_true xs)
 
--- a test on keys that each key below a passing one passes
-module _ {K : Type 0} (cmp : K → K → Ordering) (p : K → Bool) (down : (x y : K) → p y ≡ true → cmp x y ≡ Less → p x ≡ true) where
-  not_below : (f q : K) (b : Bool) → p q ≡ b → p f ≡ false → cmp f q ≡ Less → p q ≡ false
-  not_below f q false e h l = e
-  not_below f q true e h l = absurd (let t = down f q e l in cc)
+module _ {K : Type 0} (cmp : K → K → Ordering) (total : IsTotalOrder cmp) (end : Bound K) where
+  -- so what is above a key that isn't within an end isn't either
+  more_without : (x y : K) → is_within cmp end y ≡ false → cmp y x ≡ Less → is_within cmp end x ≡ false
+  more_without x y out l = at (is_within cmp end x) refl
+    where
+      at : (b : Bool) → is_within cmp end x ≡ b → is_within cmp end x ≡ false
+      at false e = e
+      at true e = absurd (let in_end = less_within cmp total end y x e l in cc)
 
-module _ {K V : Type 0} (cmp : K → K → Ordering) (p : K → Bool) (down : (x y : K) → p y ≡ true → cmp x y ≡ Less → p x ≡ true) where
-  filter-before : (f : K) (xs : List (K × V)) → p f ≡ true → AllBefore cmp f xs → filter (λ (r : K × V). p r.0) xs ≡ xs
-  filter-before f [] h a = refl
-  filter-before f (x ∷ xs) h a = rw (down x.0 f h a.0) (ap (λ r. x ∷ r) (filter-before f xs h a.1))
+  pub without_from : {V : Type 0} (f : K) (ys : List (K × V)) → IsRising cmp ys → first_key ys ≡ Some f → is_within cmp end f ≡ false → AllKeys (λ (q : K). is_within cmp end q ≡ false) ys
+  without_from {V} f ys h e out = high_from cmp (λ q. is_within cmp end q ≡ true) (λ q. is_within cmp end q ≡ false) (λ q. is_within cmp end q ≡ true) (λ q. is_within cmp end q ≡ false) (λ x y. less_within cmp total end x y) (λ y e. e) more_without f ys h e out
 
-  filter-after : (f : K) (xs : List (K × V)) → p f ≡ false → AllAfter cmp f xs → filter (λ (r : K × V). p r.0) xs ≡ []
-  filter-after f [] h a = refl
-  filter-after f (x ∷ xs) h a = rw (not_below cmp p down f x.0 (p x.0) refl h a.0) (filter-after f xs h a.1)
+first_within : {K V : Type 0} (cmp : K → K → Ordering) (end : Bound K) (f : K) (ys : List (K × V)) → Some f ≡ first_key ys → is_within cmp end f ≡ true → 0 < length (rows_to cmp end ys)
+first_within cmp end f [] e h = absurd (cc)
+first_within {K} {V} cmp end f (y ∷ ys) e h = let own : is_within cmp end y.0 ≡ true = rw (same_Some f y.0 e) at h in rw (rows_to-filter cmp end (y ∷ ys), own) (omega arith)
 
-  filter-from : (f : K) (ys : List (K × V)) → IsRising cmp ys → first_key ys ≡ Some f → p f ≡ false → filter (λ (r : K × V). p r.0) ys ≡ []
-  filter-from f [] h e g = refl
-  filter-from f (y ∷ ys) h e g =
-      let first : Some y.0 ≡ Some f = e in
-      let same : y.0 ≡ f = cc in
-      let at : p y.0 ≡ false = subst (λ (q : K). p q ≡ false) (sym same) g in
-      rw at (filter-after y.0 ys at h.0)
+module _ {K V : Type 0} (cmp : K → K → Ordering) (total : IsTotalOrder cmp) (end : Bound K) where
+  -- the rows within an end, among some that are and some that aren't
+  to-among : (a p c : List (K × V)) → AllKeys (λ (q : K). is_within cmp end q ≡ true) a → AllKeys (λ (q : K). is_within cmp end q ≡ false) c → rows_to cmp end (a ++ (p ++ c)) ≡ a ++ rows_to cmp end p
+  to-among a p c within without =
+      let t = is_within cmp end in
+      let q = λ (r : K × V). t r.0 in
+      rw (rows_to-filter cmp end (a ++ (p ++ c)), rows_to-filter cmp end p, filter-append q a (p ++ c), filter-append q p c, filter-keys t true a within, filter-keys t false c without, append-nil (filter q p)) refl
 
-  some_pass : (f : K) (ys : List (K × V)) → first_key ys ≡ Some f → p f ≡ true → 0 < length (filter (λ (r : K × V). p r.0) ys)
-  some_pass f [] e h = absurd (let none : None ≡ Some f = e in cc)
-  some_pass f (y ∷ ys) e h =
-      let first : Some y.0 ≡ Some f = e in
-      let same : y.0 ≡ f = cc in
-      let at : p y.0 ≡ true = subst (λ (q : K). p q ≡ true) (sym same) h in
-      rw at (omega arith)
+  -- the entry with the last key within the end has the last rows that are
+  place_to : (ks : List K) (ps : List (List (K × V))) → map Some ks ≡ map first_key ps → IsRising cmp (joined ps) → (n : ℕ) → 0 < length ks → n ≤ length ks
+      → ((d : K) → 0 < n → is_within cmp end (get_or ks (n - 1) d) ≡ true) → ((d : K) → n < length ks → is_within cmp end (get_or ks n d) ≡ false) → IsLastWithin cmp end ps (n - 1)
+  place_to [] ps firsts rising n some le before after = absurd (omega arith)
+  place_to (k ∷ ks) ps firsts rising n some le before after =
+      let place = between cmp (λ q. is_within cmp end q ≡ true) (λ q. is_within cmp end q ≡ false) (λ q. is_within cmp end q ≡ true) (λ q. is_within cmp end q ≡ false) (λ x y. less_within cmp total end x y) (λ y e. e) (more_without cmp total end) (k ∷ ks) ps firsts rising n k some le (before k) (after k) in
+      record {
+        in_range = place.0;
+        all = ap (rows_to cmp end) (joined_split ps (n - 1) [] place.0) ∙ to-among (joined (take (n - 1) ps)) (get_or ps (n - 1) []) (joined (drop (suc (n - 1)) ps)) place.1 place.2;
+        some = λ later. first_within cmp end (get_or (k ∷ ks) (n - 1) k) (get_or ps (n - 1) []) (get_or-first (k ∷ ks) ps (n - 1) k [] firsts (omega arith)) (before k (omega arith));
+      }
 
-  single_pass : (ks : List K) (vs : List V) (i : ℕ) (d : K) → length ks ≡ length vs → i < length ks → p (get_or ks i d) ≡ true → filter (λ (r : K × V). p r.0) (get_or (single_rows ks vs) i []) ≡ get_or (single_rows ks vs) i []
-  single_pass [] vs i d e lt h = absurd (omega arith)
-  single_pass (k ∷ ks) [] i d e lt h = absurd (omega arith)
-  single_pass (k ∷ ks) (v ∷ vs) zero d e lt h = rw h refl
-  single_pass (k ∷ ks) (v ∷ vs) (suc i) d e lt h = single_pass ks vs i d (omega arith) (omega arith) h
-
-  module _ (ks : List K) (ps : List (List (K × V))) (firsts : map Some ks ≡ map first_key ps) (rising : IsRising cmp (joined ps)) where
-    rising_at : (i : ℕ) → IsRising cmp (joined (take i ps) ++ joined (drop i ps))
-    rising_at i = subst (λ (r : List (K × V)). IsRising cmp r) (joined-take-drop i ps) rising
-
-    -- from a key that fails on, all rows fail
-    filter-drop : (n : ℕ) (d : K) → (n < length ks → p (get_or ks n d) ≡ false) → filter (λ (r : K × V). p r.0) (joined (drop n ps)) ≡ []
-    filter-drop n d after = elim (cases_lt n (length ks)) [
-      | inl lt ↦ filter-from (get_or ks n d) (joined (drop n ps)) (IsRising-right cmp (joined (take n ps)) (joined (drop n ps)) (rising_at n)) (joined_first ks ps n d firsts lt) (after lt)
-      | inr ge ↦ let e = same_length ks ps firsts in
-          let none : drop n ps ≡ [] = drop_all n ps (omega arith) in
-          rw none refl
-    ]
-
-    -- before a key that passes, all rows pass
-    filter-take : (n : ℕ) (d : K) → n < length ks → p (get_or ks n d) ≡ true → filter (λ (r : K × V). p r.0) (joined (take n ps)) ≡ joined (take n ps)
-    filter-take n d lt h = filter-before (get_or ks n d) (joined (take n ps)) h (rising_across cmp (joined (take n ps)) (joined (drop n ps)) (get_or ks n d) (rising_at n) (joined_first ks ps n d firsts lt))
-
-    -- the entry with the last key that passes has the last rows that do
-    filter-entry : (n : ℕ) (d : K) → 0 < length ks → n ≤ length ks → (0 < n → p (get_or ks (n - 1) d) ≡ true) → (n < length ks → p (get_or ks n d) ≡ false)
-        → (filter (λ (r : K × V). p r.0) (joined ps) ≡ joined (take (n - 1) ps) ++ filter (λ (r : K × V). p r.0) (get_or ps (n - 1) [])) × (0 < n - 1 → 0 < length (filter (λ (r : K × V). p r.0) (get_or ps (n - 1) [])))
-    filter-entry zero d some le before after =
-        let e = same_length ks ps firsts in
-        let q = λ (r : K × V). p r.0 in
-        let none : filter q (joined ps) ≡ [] = filter-drop 0 d after in
-        let split : joined ps ≡ get_or ps 0 [] ++ joined (drop 1 ps) = joined-drop ps 0 [] (omega arith) in
-        let both : filter q (get_or ps 0 []) ++ filter q (joined (drop 1 ps)) ≡ [] = sym (filter-append q (get_or ps 0 []) (joined (drop 1 ps))) ∙ sym (ap (filter q) split) ∙ none in
-        (none ∙ sym (left_none (filter q (get_or ps 0 [])) (filter q (joined (drop 1 ps))) both), λ (lt : 0 < 0). absurd (omega arith))
-      where
-        left_none : {X : Type 0} (a b : List X) → a ++ b ≡ [] → a ≡ []
-        left_none [] b e = refl
-        left_none (x ∷ a) b e = absurd (let t : x ∷ (a ++ b) ≡ [] = e in cc)
-    filter-entry (suc m) d some le before after =
-        let e = same_length ks ps firsts in
-        let q = λ (r : K × V). p r.0 in
-        let at : suc m - 1 ≡ m = omega arith in
-        let pass : p (get_or ks m d) ≡ true = subst (λ (i : ℕ). p (get_or ks i d) ≡ true) at (before (omega arith)) in
-        let split : joined ps ≡ joined (take m ps) ++ (get_or ps m [] ++ joined (drop (suc m) ps)) = joined_split ps m [] (omega arith) in
-        let front = filter-take m d (omega arith) pass in
-        let behind = filter-drop (suc m) d after in
-        rw at (
-          ap (filter q) split ∙ filter-append q (joined (take m ps)) (get_or ps m [] ++ joined (drop (suc m) ps)) ∙ ap (λ (r : List (K × V)). r ++ filter q (get_or ps m [] ++ joined (drop (suc m) ps))) front
-              ∙ ap (λ (r : List (K × V)). joined (take m ps) ++ r) (filter-append q (get_or ps m []) (joined (drop (suc m) ps)) ∙ ap (λ (r : List (K × V)). filter q (get_or ps m []) ++ r) behind ∙ append-nil (filter q (get_or ps m []))),
-          λ (lt : 0 < m). some_pass (get_or ks m d) (get_or ps m []) (sym (get_or-first ks ps m d [] firsts (omega arith))) pass,
-        )
-
-  -- the rows of a leaf that pass are the first n, where the key before the n-th passes and that at it fails
-  filter-leaf : (ks : List K) (vs : List V) → length ks ≡ length vs → map Some ks ≡ map first_key (single_rows ks vs) → IsRising cmp (joined (single_rows ks vs)) → (n : ℕ) (d : K) → n ≤ length ks
-      → (0 < n → p (get_or ks (n - 1) d) ≡ true) → (n < length ks → p (get_or ks n d) ≡ false) → filter (λ (r : K × V). p r.0) (pairs ks vs) ≡ pairs (take n ks) (take n vs)
-  filter-leaf ks vs same firsts rising zero d le before after = filter-drop ks (single_rows ks vs) firsts rising 0 d after
-  filter-leaf ks vs same firsts rising (suc m) d le before after =
-      let q = λ (r : K × V). p r.0 in
-      let ps = single_rows ks vs in
-      let e = same_length ks ps firsts in
-      let at : suc m - 1 ≡ m = omega arith in
-      let pass : p (get_or ks m d) ≡ true = subst (λ (i : ℕ). p (get_or ks i d) ≡ true) at (before (omega arith)) in
-      let front = filter-take ks ps firsts rising m d (omega arith) pass in
-      let here = single_pass ks vs m d same (omega arith) pass in
-      let more : joined (take (suc m) ps) ≡ joined (take m ps) ++ get_or ps m [] = joined-take_more ps m [] (omega arith) in
-      let kept : filter q (joined (take (suc m) ps)) ≡ joined (take (suc m) ps) =
-      ap (filter q) more ∙ filter-append q (joined (take m ps)) (get_or ps m []) ∙ ap (λ (r : List (K × V)). r ++ filter q (get_or ps m [])) front ∙ ap (λ (r : List (K × V)). joined (take m ps) ++ r) here ∙ sym more in
-      let behind = filter-drop ks ps firsts rising (suc m) d after in
-      ap (filter q) (joined-take-drop (suc m) ps) ∙ filter-append q (joined (take (suc m) ps)) (joined (drop (suc m) ps)) ∙ ap (λ (r : List (K × V)). r ++ filter q (joined (drop (suc m) ps))) kept
-      ∙ ap (λ (r : List (K × V)). joined (take (suc m) ps) ++ r) behind ∙ append-nil (joined (take (suc m) ps)) ∙ ap joined (sym (take-single_rows (suc m) ks vs))
-
-  -- the same for whatever default: an empty run needs none
-  filter-some_entry : (ks : List K) (ps : List (List (K × V))) → map Some ks ≡ map first_key ps → IsRising cmp (joined ps) → (n : ℕ) → 0 < length ks → n ≤ length ks → ((d : K) → 0 < n → p (get_or ks (n - 1) d) ≡ true) → ((d : K) → n < length ks → p (get_or ks n d) ≡ false)
-      → (filter (λ (r : K × V). p r.0) (joined ps) ≡ joined (take (n - 1) ps) ++ filter (λ (r : K × V). p r.0) (get_or ps (n - 1) [])) × (0 < n - 1 → 0 < length (filter (λ (r : K × V). p r.0) (get_or ps (n - 1) [])))
-  filter-some_entry [] ps firsts rising n some le before after = absurd (omega arith)
-  filter-some_entry (k ∷ ks) ps firsts rising n some le before after = filter-entry (k ∷ ks) ps firsts rising n k some le (before k) (after k)
-
-  filter-any_leaf : (ks : List K) (vs : List V) → length ks ≡ length vs → map Some ks ≡ map first_key (single_rows ks vs) → IsRising cmp (joined (single_rows ks vs)) → (n : ℕ) → n ≤ length ks
-      → ((d : K) → 0 < n → p (get_or ks (n - 1) d) ≡ true) → ((d : K) → n < length ks → p (get_or ks n d) ≡ false) → filter (λ (r : K × V). p r.0) (pairs ks vs) ≡ pairs (take n ks) (take n vs)
-  filter-any_leaf [] vs same firsts rising zero le before after = refl
-  filter-any_leaf [] vs same firsts rising (suc n) le before after = absurd (omega arith)
-  filter-any_leaf (k ∷ ks) vs same firsts rising n le before after = filter-leaf (k ∷ ks) vs same firsts rising n k le (before k) (after k)
+  -- the rows of a leaf up to the last key within the end
+  leaf_rows_to : (ks : List K) (vs : List V) → length ks ≡ length vs → map Some ks ≡ map first_key (single_rows ks vs) → IsRising cmp (pairs ks vs) → (n : ℕ) → n ≤ length ks
+      → ((d : K) → 0 < n → is_within cmp end (get_or ks (n - 1) d) ≡ true) → ((d : K) → n < length ks → is_within cmp end (get_or ks n d) ≡ false) → rows_to cmp end (pairs ks vs) ≡ pairs (take n ks) (take n vs)
+  leaf_rows_to [] vs same firsts rising n le before after = let none : n ≡ 0 = omega arith in rw (none, rows_to-filter cmp end []) refl
+  leaf_rows_to (k ∷ ks) vs same firsts rising n le before after =
+      let ps = single_rows (k ∷ ks) vs in
+      let within = leaf_low cmp (λ q. is_within cmp end q ≡ true) (λ q. is_within cmp end q ≡ false) (λ q. is_within cmp end q ≡ true) (λ q. is_within cmp end q ≡ false) (λ x y. less_within cmp total end x y) (λ y e. e) (more_without cmp total end) (λ y e. e) (k ∷ ks) vs same firsts rising n k le (before k) in
+      let without = high_behind cmp (λ q. is_within cmp end q ≡ true) (λ q. is_within cmp end q ≡ false) (λ q. is_within cmp end q ≡ true) (λ q. is_within cmp end q ≡ false) (λ x y. less_within cmp total end x y) (λ y e. e) (more_without cmp total end) (k ∷ ks) ps firsts rising n k (after k) in
+      ap (rows_to cmp end) (joined-take-drop n ps) ∙ to-among (joined (take n ps)) [] (joined (drop n ps)) within without ∙ rw (rows_to-filter cmp end []) (append-nil (joined (take n ps))) ∙ ap joined (sym (take-single_rows n (k ∷ ks) vs))
 
 module _ {K V : Type 0} (cmp : K → K → Ordering) (total : IsTotalOrder cmp) (end : Bound K) (b : Bool) (ks : List K) (vs : List V) (cs : List (Subtree K V)) (s : Subtree K V)
     (node : IsNode b ks vs cs) (is : subtree_of b ks vs cs ≡ s) (rising : IsRising cmp (rows s)) (n : ℕ) (le : n ≤ length ks)
     (before : (d : K) → 0 < n → is_within cmp end (get_or ks (n - 1) d) ≡ true) (after : (d : K) → n < length ks → is_within cmp end (get_or ks n d) ≡ false) where
-  rising_inside : IsRising cmp (joined (parts_of b ks vs cs))
-  rising_inside = subst (λ (t : Subtree K V). IsRising cmp (rows t)) (sym is) rising
-
   -- the child with the last row within the end
   pub last_child : 0 < length s.parts → IsLastWithin cmp end s.parts (n - 1)
   last_child some =
       let long = length-seen b ks vs cs s node is in
-      let found = filter-some_entry cmp (is_within cmp end) (less_within cmp total end) ks (parts_of b ks vs cs) node.first_keys rising_inside n (omega arith) le before after in
-      let seen = same_parts is in
-      let found' = subst (λ (ps : List (List (K × V))). (filter (λ (r : K × V). is_within cmp end r.0) (joined ps) ≡ joined (take (n - 1) ps) ++ filter (λ (r : K × V). is_within cmp end r.0) (get_or ps (n - 1) [])) × (0 < n - 1 → 0 < length (filter (λ (r : K × V). is_within cmp end r.0) (get_or ps (n - 1) [])))) seen found in
-      let here = rows_to-filter cmp end (get_or s.parts (n - 1) []) in
-      record {
-        in_range = omega arith;
-        all = rows_to-filter cmp end (joined s.parts) ∙ found'.0 ∙ ap (λ (r : List (K × V)). joined (take (n - 1) s.parts) ++ r) (sym here);
-        some = λ lt. subst (λ (r : List (K × V)). 0 < length r) (sym here) (found'.1 lt);
-      }
+      rw (← is) (place_to cmp total end ks (parts_of b ks vs cs) node.first_keys (rw (← is) at rising) n (omega arith) le before after)
 
   -- the rows of a leaf within the end
   pub leaf_to : b ≡ false → IsRunTo cmp end (rows s) (take n ks) (take n vs) [] None
   leaf_to leaf =
-      let at = leaf_parts b ks vs cs leaf in
-      let same = (leaf_same b ks vs cs leaf node).1 in
-      let the_rows : rows s ≡ pairs ks vs = ap joined (sym (same_parts is) ∙ at) in
-      let inside : IsRising cmp (joined (single_rows ks vs)) = subst (λ (r : List (K × V)). IsRising cmp r) the_rows rising in
-      let within = filter-any_leaf cmp (is_within cmp end) (less_within cmp total end) ks vs same (node.first_keys ∙ ap (map first_key) at) inside n le before after in
-      let all : rows_to cmp end (rows s) ≡ pairs (take n ks) (take n vs) = ap (rows_to cmp end) the_rows ∙ rows_to-filter cmp end (pairs ks vs) ∙ within in
-      let long = length-pairs (take n ks) (take n vs) (same_take n ks vs same) in
+      let own = rw leaf at node in
+      let the_rows : rows s ≡ pairs ks vs = ap joined (sym (same_parts is) ∙ leaf_parts b ks vs cs leaf) in
+      let all : rows_to cmp end (rows s) ≡ pairs (take n ks) (take n vs) = rw the_rows (leaf_rows_to cmp total end ks vs own.kind.1 own.first_keys (rw the_rows at rising) n le before after) in
+      let long = length-pairs (take n ks) (take n vs) (same_take n ks vs own.kind.1) in
       record {
-        same = same_take n ks vs same;
+        same = same_take n ks vs own.kind.1;
         filled = tt;
         front = [];
         back = rows s;
@@ -279,12 +168,10 @@ branch_run_to {K} {V} cmp end ps i p ks vs leaves before own h entry run cut =
 pub cut_facts : {K V : Type 0} (cmp : K → K → Ordering) (total : IsTotalOrder cmp) (front back : List (K × V)) (before : Option K) → IsRising cmp (front ++ back) → IsCut before front back → (rows_before cmp before (front ++ back) ≡ front) × HasBefore cmp before (front ++ back)
 cut_facts cmp total front back None h none = (sym none, tt)
 cut_facts {K} {V} cmp total front back (Some k) h cut =
-    let q = λ (r : K × V). is_lt (cmp r.0 k) in
     let tied : cmp k k ≡ Equal = tied_itself total k in
-    let out : is_lt (cmp k k) ≡ false = rw tied refl in
-    let low = tested-before cmp is_lt k front (rising_across cmp front back k h cut.1) in
-    let high = filter-from cmp (λ (x : K). is_lt (cmp x k)) (less_within cmp total (Excluded k)) k back (IsRising-right cmp front back h) cut.1 out in
-    let all : rows_below cmp k (front ++ back) ≡ front = filter-append q front back ∙ ap (λ (r : List (K × V)). r ++ filter q back) low ∙ ap (λ (r : List (K × V)). front ++ r) high ∙ append-nil front in
+    let low = AllKeys-map _ _ (λ q less. ap is_lt less) front (rising_across cmp front back k h cut.1) in
+    let high = without_from cmp total (Excluded k) k back (IsRising-right cmp front back h) cut.1 (rw tied refl) in
+    let all : rows_below cmp k (front ++ back) ≡ front = to-among cmp total (Excluded k) front [] back low high ∙ append-nil front in
     (all, subst (λ (r : List (K × V)). 0 < length r) (sym all) cut.0)
 
 pub run_facts : {K V : Type 0} (cmp : K → K → Ordering) (total : IsTotalOrder cmp) (end : Bound K) (all_rows : List (K × V)) (ks : List K) (vs : List V) (leaves : List (Subtree K V)) (before : Option K) (run : IsRunTo cmp end all_rows ks vs leaves before) → IsRising cmp all_rows

@@ -5,6 +5,7 @@ pub mod Code
 pub mod Node
 pub mod Falls
 pub mod Place
+pub mod Pair
 pub mod Inserted
 pub mod Tree
 pub mod Run

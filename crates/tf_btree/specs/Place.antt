@@ -4,16 +4,19 @@ use Rattle.std.specs.declared.cmp.Ordering.{Ordering}
 use Rattle.std.specs.declared.cmp.Ordering.TheVariants.{Less, Equal, Greater}
 use Rattle.tf_btree.specs.Subtree.{joined}
 
+-- the key of each of these rows has this property
+abbrev pub AllKeys : {K V : Type 0} → (K → Type 0) → List (K × V) → Type 0
+AllKeys P [] = Unit {0}
+AllKeys P (r ∷ rs) = P r.0 × AllKeys P rs
+
 module _ {K V : Type 0} (cmp : K → K → Ordering) where
   -- each of these rows has a lesser key than k
   abbrev pub AllBefore : K → List (K × V) → Type 0
-  AllBefore k [] = Unit {0}
-  AllBefore k (r ∷ rs) = (cmp r.0 k ≡ Less) × AllBefore k rs
+  AllBefore k rows = AllKeys (λ (q : K). cmp q k ≡ Less) rows
 
   -- each of these rows has a greater key than k
   abbrev pub AllBeyond : K → List (K × V) → Type 0
-  AllBeyond k [] = Unit {0}
-  AllBeyond k (r ∷ rs) = (cmp r.0 k ≡ Greater) × AllBeyond k rs
+  AllBeyond k rows = AllKeys (λ (q : K). cmp q k ≡ Greater) rows
 
   -- the rows before k's place are less, those behind it greater
   pub record Among (k : K) (a c : List (K × V)) : Type 0 where

@@ -1,5 +1,5 @@
 -- The shape of the nodes below a node, and when they are filled: at least half full, but for those on the right edge.
-use Rattle.std.specs.Prelude.{◌≡◌, ℕ, zero, suc, ◌≤◌, List, [], ◌∷◌, drop, Bool, false}
+use Rattle.std.specs.Prelude.{◌≡◌, ℕ, suc, ◌≤◌, List, [], ◌∷◌, drop, slice_index_or, slice_set, Bool, false}
 
 -- the most entries of a node, and the least of one that isn't on the right edge
 abbrev pub capacity : ℕ
@@ -50,8 +50,10 @@ pub record IsFilled (edge : Bool) (f : Fill) : Type 0 where
 abbrev pub one_more : Fill → Fill
 one_more f = record { entries = suc f.entries; below = f.below }
 
+-- a node without entries
+abbrev pub no_entries : Fill
+no_entries = record { entries = 0; below = childless }
+
 -- the children, with one more entry in the one at i
 abbrev pub one_more_at : ℕ → List Fill → List Fill
-one_more_at i [] = []
-one_more_at zero (f ∷ fs) = one_more f ∷ fs
-one_more_at (suc i) (f ∷ fs) = f ∷ one_more_at i fs
+one_more_at i fs = slice_set fs i (one_more (slice_index_or fs i no_entries))

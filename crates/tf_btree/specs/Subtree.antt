@@ -1,5 +1,7 @@
 -- What a node shows: its kind, its height, the rows below each of its entries, and how full its children are.
-use Rattle.std.specs.Prelude.{ℕ, Bool, List, [], ◌∷◌, ◌++◌, length}
+use Rattle.std.specs.Prelude.{◌≡◌, ℕ, suc, ◌<◌, Bool, List, [], ◌∷◌, ◌++◌, length, slice_index_or}
+use Rattle.std.specs.declared.cmp.Ordering.{Ordering}
+use Rattle.tf_btree.specs.Rows.{IsRising}
 use Rattle.tf_btree.specs.Shape.{Fill, shape_of}
 
 -- the lists, one after another
@@ -21,3 +23,12 @@ rows s = joined s.parts
 -- the node as its parent sees it
 abbrev pub fill_of : {K V : Type 0} → Subtree K V → Fill
 fill_of s = record { entries = length s.parts; below = shape_of s.fills }
+
+-- the child at i of a branch: it has the rows and the fill that are seen there, and entries, is one level lower, and its keys rise where those of all do
+pub record IsChildAt {K V : Type 0} (s : Subtree K V) (i : ℕ) (child : Subtree K V) : Type 0 where
+  pub entry : slice_index_or s.parts i [] ≡ rows child
+  pub fill : slice_index_or s.fills i (fill_of child) ≡ fill_of child
+  pub fills : length s.fills ≡ length s.parts
+  pub level : s.height ≡ suc child.height
+  pub some : 0 < length child.parts
+  pub rising : (cmp : K → K → Ordering) → IsRising cmp (rows s) → IsRising cmp (rows child)

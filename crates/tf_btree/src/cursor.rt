@@ -103,8 +103,7 @@ impl<'a, K: Copy + Ord, V: Copy, A: Allocator> Cursor<'a, K, V, A> {
             },
             Some(top) => {
                 let first = top.first();
-                let run = top.run_from(&first);
-                Cursor { root, run, at: 0 }
+                Cursor::from_key(root, &first)
             }
         }
     }

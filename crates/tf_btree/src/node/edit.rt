@@ -1,6 +1,6 @@
 //! Edits of one node, seen as the list of its entries.
 ghost use Rattle.std.specs.Prelude.{◌≡◌, ◌+◌, ◌-◌, ◌<◌, ◌≤◌, ◌==◌, [], ◌∷◌, ◌++◌, true, false, suc, length, insert, remove, take, drop, slice_index_or};
-ghost use Rattle.tf_btree.specs.Subtree.{Subtree, rows, fill_of};
+ghost use Rattle.tf_btree.specs.Subtree.{Subtree, IsChildAt, rows, fill_of};
 ghost use Rattle.tf_btree.specs.Node.{empty_node};
 
 use super::runs::{copy_tail, move_all, move_tail, put};
@@ -37,11 +37,7 @@ impl<K: Copy, V: Copy, A: Allocator> Node<K, V, A> {
     pub(super) fn child(&self, at: usize) -> &Node<K, V, A>
         requires branch { self.now.is_branch ≡ true }
         requires in_range { at < length self.now.parts }
-        ensures entry { slice_index_or self.now.parts at [] ≡ rows result.now }
-        ensures some { 0 < length result.now.parts }
-        ensures level { self.now.height ≡ suc result.now.height }
-        ensures fill { slice_index_or self.now.fills at (fill_of result.now) ≡ fill_of result.now }
-        ensures fills { length self.now.fills ≡ length self.now.parts }
+        ensures { IsChildAt self.now at result.now }
     {
         &self.children[at]
     }
@@ -50,7 +46,7 @@ impl<K: Copy, V: Copy, A: Allocator> Node<K, V, A> {
     pub(super) fn remove_row(&mut self, at: usize) -> (K, V)
         requires leaf { self.old.is_branch ≡ false }
         requires in_bounds { at < length self.old.parts }
-        ensures value { slice_index_or self.old.parts at (result ∷ []) ≡ result ∷ [] }
+        ensures value { slice_index_or self.old.parts at [] ≡ result ∷ [] }
         ensures rest { self.new ≡ record self.old { parts = remove self.old.parts at } }
     {
         let key = self.keys.remove(at);
@@ -62,34 +58,28 @@ impl<K: Copy, V: Copy, A: Allocator> Node<K, V, A> {
     pub(super) fn remove_child(&mut self, at: usize) -> Box<Node<K, V, A>, A>
         requires branch { self.old.is_branch ≡ true }
         requires in_bounds { at < length self.old.parts }
-        ensures value { slice_index_or self.old.parts at (rows result.value) ≡ rows result.value }
-        ensures some { 0 < length result.value.parts }
-        ensures level { self.old.height ≡ suc result.value.height }
+        ensures taken { IsChildAt self.old at result.value }
         ensures branch { self.new.is_branch ≡ true }
         ensures rest { self.new.parts ≡ remove self.old.parts at }
-        ensures same_level { 0 < length self.new.parts → self.new.height ≡ self.old.height }
-        ensures fill { slice_index_or self.old.fills at (fill_of result.value) ≡ fill_of result.value }
-        ensures fills { length self.old.fills ≡ length self.old.parts }
         ensures rest_fills { self.new.fills ≡ remove self.old.fills at }
+        ensures same_level { 0 < length self.new.parts → self.new.height ≡ self.old.height }
     {
         let _ = self.keys.remove(at);
         self.children.remove(at)
     }
 
-    /// Moves the entries from `at` on to `right`, which is an empty node of the same kind.
+    /// Moves the entries from `at` on, which isn't the first, to `right`, which is an empty node of the same kind.
     pub(super) fn split_off(&mut self, at: usize, right: &mut Node<K, V, A>)
+        requires some { 0 < at }
         requires in_bounds { at ≤ length self.old.parts }
         requires empty { right.old ≡ empty_node self.old.is_branch }
-        ensures left_kind { self.new.is_branch ≡ self.old.is_branch }
+        ensures left { self.new ≡ record self.old { parts = take at self.old.parts; fills = take at self.old.fills } }
         ensures right_kind { right.new.is_branch ≡ self.old.is_branch }
-        ensures left { self.new.parts ≡ take at self.old.parts }
         ensures right { right.new.parts ≡ drop at self.old.parts }
-        ensures left_level { 0 < at → self.new.height ≡ self.old.height }
-        ensures right_level { at < length self.old.parts → right.new.height ≡ self.old.height }
-        ensures leaf_level { self.old.is_branch ≡ false → self.old.height ≡ 0 }
-        ensures right_leaf_level { self.old.is_branch ≡ false → right.new.height ≡ 0 }
-        ensures left_fills { self.new.fills ≡ take at self.old.fills }
         ensures right_fills { right.new.fills ≡ drop at self.old.fills }
+        ensures right_level { at < length self.old.parts → right.new.height ≡ self.old.height }
+        ensures right_leaf_level { self.old.is_branch ≡ false → right.new.height ≡ 0 }
+        ensures leaf_level { self.old.is_branch ≡ false → self.old.height ≡ 0 }
         ensures leaf_fills { self.old.is_branch ≡ false → self.old.fills ≡ [] }
         ensures branch_fills { self.old.is_branch ≡ true → length self.old.fills ≡ length self.old.parts }
     {

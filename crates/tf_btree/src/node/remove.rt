@@ -4,6 +4,7 @@ ghost use Rattle.tf_btree.specs.Shape.{AllFilled, IsFilled, one_more, one_more_a
 ghost use Rattle.tf_btree.specs.Subtree.{Subtree, rows, fill_of};
 ghost use Rattle.tf_btree.specs.Rows.{IsRising, value_at, without_row};
 ghost use Rattle.tf_btree.specs.Inserted.{KeepsLevel};
+ghost use Rattle.tf_btree.specs.Pair.{IsPairIn};
 
 use super::{CAPACITY, HALF, Node};
 use std::alloc::Allocator;
@@ -57,6 +58,27 @@ impl<K: Copy, V: Copy, A: Allocator> Node<K, V, A> {
         }
     }
 
+    /// Moves an entry from the fuller one of two neighbours to the other, if one is fuller.
+    fn even_out(&mut self, second: &mut Node<K, V, A>)
+        requires kind { second.old.is_branch ≡ self.old.is_branch }
+        requires level { second.old.height ≡ self.old.height }
+        requires some { 0 < length self.old.parts }
+        requires second_some { 0 < length second.old.parts }
+        requires many { CAPACITY < length self.old.parts + length second.old.parts }
+        ensures all { rows self.new ++ rows second.new ≡ rows self.old ++ rows second.old }
+        ensures level { KeepsLevel self.old self.new }
+        ensures second_level { KeepsLevel second.old second.new }
+        ensures filled { (edge : Bool) → IsFilled false (one_more (fill_of self.old)) → IsFilled edge (one_more (fill_of second.old)) → IsFilled false (fill_of self.new) × IsFilled edge (fill_of second.new) }
+    {
+        let len = self.len();
+        let second_len = second.len();
+        if len < second_len {
+            self.take_first(second);
+        } else if second_len < len {
+            self.give_last(second);
+        }
+    }
+
     /// Joins the child at `at` with a neighbour, or moves an entry over from it, where it is less than half full.
     fn mend(&mut self, at: usize)
         requires branch { self.old.is_branch ≡ true }
@@ -75,6 +97,26 @@ impl<K: Copy, V: Copy, A: Allocator> Node<K, V, A> {
         self.mend_pair(left);
     }
 
+    /// Takes the child at `left` and the one behind it out of a branch.
+    fn take_pair(&mut self, left: usize) -> (Box<Node<K, V, A>, A>, Box<Node<K, V, A>, A>)
+        requires branch { self.old.is_branch ≡ true }
+        requires in_range { left + 1 < length self.old.parts }
+        requires fits { length self.old.parts ≤ CAPACITY }
+        ensures branch { self.new.is_branch ≡ true }
+        ensures parts { IsPairIn self.old.parts left (rows result.0.value) (rows result.1.value) self.new.parts }
+        ensures fills { IsPairIn self.old.fills left (fill_of result.0.value) (fill_of result.1.value) self.new.fills }
+        ensures fewer { length self.new.parts + 2 ≡ length self.old.parts }
+        ensures level { 0 < length self.new.parts → self.new.height ≡ self.old.height }
+        ensures some { 0 < length result.0.value.parts }
+        ensures second_some { 0 < length result.1.value.parts }
+        ensures first_level { self.old.height ≡ suc result.0.value.height }
+        ensures second_level { self.old.height ≡ suc result.1.value.height }
+    {
+        let second = self.remove_child(left + 1);
+        let first = self.remove_child(left);
+        (first, second)
+    }
+
     /// Joins the children at `left` and behind it, or moves an entry from the fuller one to the other.
     fn mend_pair(&mut self, left: usize)
         requires branch { self.old.is_branch ≡ true }
@@ -85,22 +127,15 @@ impl<K: Copy, V: Copy, A: Allocator> Node<K, V, A> {
         ensures level { KeepsLevel self.old self.new }
         ensures filled { (edge : Bool) → AllFilled edge (one_more_at left (one_more_at (left + 1) self.old.fills)) → AllFilled edge self.new.fills }
     {
-        let mut second = self.remove_child(left + 1);
-        let mut first = self.remove_child(left);
-        let first_len = first.len();
-        let second_len = second.len();
-        if first_len + second_len <= CAPACITY {
+        let (mut first, mut second) = self.take_pair(left);
+        if first.len() + second.len() <= CAPACITY {
             first.append(&mut second);
             self.insert_child(left, first);
-            return;
+        } else {
+            first.even_out(&mut second);
+            self.insert_child(left, second);
+            self.insert_child(left, first);
         }
-        if first_len < second_len {
-            first.take_first(&mut second);
-        } else if second_len < first_len {
-            first.give_last(&mut second);
-        }
-        self.insert_child(left, second);
-        self.insert_child(left, first);
     }
 
     /// Removes the row of `key` below this node, if there is one, and gives its value. It takes no memory.

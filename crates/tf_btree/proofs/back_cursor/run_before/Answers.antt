@@ -1,6 +1,4 @@
-use Rattle.std.proofs.Common.{◌≡◌, [], ◌∷◌, ◌++◌, ap, ◌∙◌}
-use Rattle.std.proofs.lemmas.List.{map-append}
-use Rattle.tf_btree.specs.Node.{unbox, unboxed}
+use Rattle.tf_btree.proofs.Words.{◌≡◌, [], ◌∷◌, ◌++◌, ap, ◌∙◌, map-append, unbox, unboxed}
 use Rattle.tf_btree.proofs.Within.{last_low, last_leaf}
 use Rattle.tf_btree.proofs.back_cursor.run_before.Goals as goal
 

@@ -1,5 +1,4 @@
-use Rattle.std.proofs.Common.{◌∙◌}
-use Rattle.std.proofs.lemmas.List.{append-nil}
+use Rattle.tf_btree.proofs.Words.{◌∙◌, append-nil}
 use Rattle.tf_btree.proofs.Within.{run_facts}
 use Rattle.tf_btree.proofs.back_cursor.run_up_to.Goals as goal
 

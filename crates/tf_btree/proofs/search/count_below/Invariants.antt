@@ -1,5 +1,4 @@
-use Rattle.std.proofs.Common.{◌≡◌, ◌<◌, ◌≤◌, length, get_or, false}
-use Rattle.std.specs.Ordering.{is_lt}
+use Rattle.tf_btree.proofs.Words.{◌≡◌, ◌<◌, ◌≤◌, length, get_or, false, is_lt}
 use Rattle.tf_btree.proofs.search.count_below.Given as goal
 
 abbrev pub invariant-loop-count : goal.invariant-loop-count

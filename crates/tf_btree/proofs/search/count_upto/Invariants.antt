@@ -1,5 +1,4 @@
-use Rattle.std.proofs.Common.{◌≡◌, ◌<◌, ◌≤◌, length, get_or, true}
-use Rattle.std.specs.Ordering.{is_gt}
+use Rattle.tf_btree.proofs.Words.{◌≡◌, ◌<◌, ◌≤◌, length, get_or, true, is_gt}
 use Rattle.tf_btree.proofs.search.count_upto.Given as goal
 
 abbrev pub invariant-loop-count : goal.invariant-loop-count

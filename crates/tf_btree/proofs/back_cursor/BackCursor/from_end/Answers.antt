@@ -1,5 +1,4 @@
-use Rattle.std.proofs.Common.{arith, sym, ◌∙◌, ap}
-use Rattle.std.specs.Prelude.{reverse}
+use Rattle.tf_btree.proofs.Words.{arith, sym, ◌∙◌, ap, reverse}
 use Rattle.tf_btree.proofs.Within.{run_facts, whole_run}
 use Rattle.tf_btree.proofs.back_cursor.BackCursor.from_end.Goals as goal
 

@@ -1,4 +1,4 @@
-use Rattle.std.proofs.Common.{arith, sym}
+use Rattle.tf_btree.proofs.Words.{arith, sym}
 use Rattle.tf_btree.proofs.RunLemmas.{run_behind}
 use Rattle.tf_btree.proofs.cursor.Cursor.from_key.Goals as goal
 

@@ -1,25 +1,9 @@
-use Rattle.std.proofs.Common.{rules, sym, ◌∙◌, ap, subst}
-use Rattle.tf_btree.specs.Rows.{IsRising, value_at}
-use Rattle.tf_btree.proofs.Placed.{value_below, rising_entry, node_value, value_gap}
+use Rattle.tf_btree.proofs.Words.{rules, sym, ◌∙◌, ap, value_at}
+use Rattle.tf_btree.proofs.Placed.{value_below, node_value, value_gap}
 use Rattle.tf_btree.proofs.node.Node.+get.Goals as goal
 
 pub get-requires : goal.get-requires
-get-requires g t c κs within = (
-  search rules,
-  (
-    search rules,
-    (
-      search rules,
-      (
-        search rules,
-        (
-          subst (λ r. IsRising g.K.Ord.cmp r) c.child.ensures.entry (rising_entry _ _ _ c.find_child-at.ensures.in_range c.requires.rising),
-          c.child.ensures.some,
-        ),
-      ),
-    ),
-  ),
-)
+get-requires g t c κs within = let rising = c.child.ensures.rising g.K.Ord.cmp c.requires.rising in search rules
 
 pub returns-then-self : goal.returns-then-self
 returns-then-self g t c = c.get.ensures ∙ sym (value_below _ _ _ _ c.find_child-at.ensures ∙ ap (λ r. value_at g.K.Ord.cmp c.args.key.now r) c.child.ensures.entry)

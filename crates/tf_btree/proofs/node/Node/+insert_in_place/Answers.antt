@@ -1,49 +1,32 @@
-use Rattle.std.proofs.Common.{rules, ◌≡◌, true, IfSome, length, set, sym, ◌∙◌, ap, subst, arith}
-use Rattle.std.proofs.lemmas.List.{length-set}
-use Rattle.std.specs.Box.{with_value}
-use Rattle.tf_btree.specs.Subtree.{joined, rows}
-use Rattle.tf_btree.specs.Node.{first_key, subtree_of, unboxed}
-use Rattle.tf_btree.specs.Rows.{IsRising, value_at}
-use Rattle.tf_btree.proofs.Entries.{same_kind}
-use Rattle.tf_btree.proofs.Placed.{value_below, rising_entry}
+use Rattle.tf_btree.proofs.Words.{rules, ◌≡◌, IfSome, length, set, sym, ◌∙◌, ap, subst, arith, length-set, with_value, joined, rows, first_key, subtree_of, unboxed, value_at}
+use Rattle.tf_btree.proofs.Entries.{child_at}
+use Rattle.tf_btree.proofs.Placed.{value_below}
 use Rattle.tf_btree.proofs.Parts.{joined-set}
 use Rattle.tf_btree.proofs.Edited.{with_row_child}
-use Rattle.tf_btree.proofs.Children.{if_some, if_none, child_at, child_same}
+use Rattle.tf_btree.proofs.Children.{if_some, if_none, child_same}
 use Rattle.tf_btree.proofs.InPlace.{first_part, first-set_same, child_kept, kept_filled}
 use Rattle.tf_btree.proofs.Height.{is_counted}
 use Rattle.tf_btree.proofs.node.Node.+insert_in_place.Goals as goal
 
 pub insert_in_place-replaced-requires : goal.insert_in_place-replaced-requires
 insert_in_place-replaced-requires g t c κs within =
-    let branch : c.self.inside.is_branch ≡ true = same_kind c.self.view_is ∙ sym c.is_branch.ensures ∙ c.if-not-is_branch.false in
+    let branch = sym c.is_branch.ensures ∙ c.if-not-is_branch.false in
     let child = child_at _ _ _ _ _ _ _ _ branch c.self.invariant.0 c.self.view_is c.find_child-at.ensures.in_range c.index_mut.ensures.value c.deref_mut-child.ensures.value in
-    let level = child.level in (
-      search rules,
-      (
-        search rules,
-        (
-          search rules,
-          (
-            search rules,
-            (
-              subst (λ r. IsRising g.K.Ord.cmp r) child.entry (rising_entry _ _ _ c.find_child-at.ensures.in_range c.requires.rising),
-              child.some,
-            ),
-          ),
-        ),
-      ),
-    )
+    let level = child.level in
+    let rising = child.rising g.K.Ord.cmp c.requires.rising in
+    let some = child.some in
+    search rules
 
 pub invariant_of-self : goal.invariant_of-self
 invariant_of-self g t c =
-    let branch : c.self.inside.is_branch ≡ true = same_kind c.self.view_is ∙ sym c.is_branch.ensures ∙ c.if-not-is_branch.false in
+    let branch = sym c.is_branch.ensures ∙ c.if-not-is_branch.false in
     let child = child_at _ _ _ _ _ _ _ _ branch c.self.invariant.0 c.self.view_is c.find_child-at.ensures.in_range c.index_mut.ensures.value c.deref_mut-child.ensures.value in
     let put = child_kept _ _ _ _ _ _ (with_value c.index_mut.result.now c.insert_in_place-replaced.new.self) _ branch c.self.invariant.0 c.self.view_is c.find_child-at.ensures.in_range child c.insert_in_place-replaced.ensures.first c.insert_in_place-replaced.ensures.level.height (is_counted _ _ _ _ _ c.child.invariant.0 c.child.invariant.1.entries_fit c.child.view_is) in
     (put.node, c.self.invariant.1)
 
 pub returns : goal.returns
 returns g t c =
-    let branch : c.self.inside.is_branch ≡ true = same_kind c.self.view_is ∙ sym c.is_branch.ensures ∙ c.if-not-is_branch.false in
+    let branch = sym c.is_branch.ensures ∙ c.if-not-is_branch.false in
     let child = child_at _ _ _ _ _ _ _ _ branch c.self.invariant.0 c.self.view_is c.find_child-at.ensures.in_range c.index_mut.ensures.value c.deref_mut-child.ensures.value in
     let put = child_kept _ _ _ _ _ _ (with_value c.index_mut.result.now c.insert_in_place-replaced.new.self) _ branch c.self.invariant.0 c.self.view_is c.find_child-at.ensures.in_range child c.insert_in_place-replaced.ensures.first c.insert_in_place-replaced.ensures.level.height (is_counted _ _ _ _ _ c.child.invariant.0 c.child.invariant.1.entries_fit c.child.view_is) in
     let at = c.find_child-at.ensures in
@@ -62,5 +45,5 @@ returns g t c =
           ∙ first-set_same c.args.self.now.parts c.find_child-at.result (rows new) (c.insert_in_place-replaced.ensures.first ∙ sym (ap first_key child.entry)) at.in_range (first_part _ _ _ _ _ c.self.invariant.0 c.self.view_is c.requires.some);
       level = record { kind = put.kind; height = put.height; some = omega (arith, c.requires.some) };
       entries = omega arith;
-      filled = λ edge old. kept_filled edge c.args.self.now (subtree_of c.self.inside.is_branch c.self.inside.keys.items c.self.inside.values.items boxes) c.find_child-at.result _ new child put.parts put.fills c.insert_in_place-replaced.ensures.filled old;
+      filled = λ edge old. kept_filled edge c.args.self.now (subtree_of c.self.inside.is_branch c.self.inside.keys.items c.self.inside.values.items boxes) c.find_child-at.result _ new child at.in_range put.parts put.fills c.insert_in_place-replaced.ensures.filled old;
     }

@@ -1,16 +1,11 @@
-use Rattle.std.proofs.Common.{rules, ◌≡◌, suc, Bool, remove, true, Some, length, refl, sym, ◌∙◌, ap, subst, arith}
-use Rattle.std.proofs.lemmas.List.{nil_from_length, length-set}
-use Rattle.std.proofs.lemmas.List.Edits.{length-remove}
-use Rattle.std.specs.Box.{with_value}
-use Rattle.tf_btree.specs.Shape.{IsFilled, one_more, edge_at}
-use Rattle.tf_btree.specs.Subtree.{joined, rows, fill_of}
-use Rattle.tf_btree.specs.Rows.{IsRising, value_at}
-use Rattle.tf_btree.proofs.Entries.{same_kind, same_parts, same_fills, length-seen, room_after}
-use Rattle.tf_btree.proofs.Placed.{value_below, rising_entry, value_gap, value_found}
+use Rattle.tf_btree.proofs.Words.{rules, Bool, remove, true, Some, length, refl, sym, ◌∙◌, ap, arith, nil_from_length, length-set, length-remove, with_value, IsFilled, one_more, edge_at, joined, rows, fill_of, value_at}
+use Rattle.tf_btree.proofs.Entries.{child_at, same_parts, same_fills, length-seen, room_after}
+use Rattle.tf_btree.proofs.Runs.{entry_value}
+use Rattle.tf_btree.proofs.Placed.{value_below, value_gap, value_found}
 use Rattle.tf_btree.proofs.Parts.{joined-set, joined-remove}
-use Rattle.tf_btree.proofs.Edited.{without_row_at, without_row_gap, without_row_child, entry_value}
+use Rattle.tf_btree.proofs.Edited.{without_row_at, without_row_gap, without_row_child}
 use Rattle.tf_btree.proofs.Filled.{IsFilled-more, filled_more, filled_fewer, filled_fewer_than, filled_short, filled_without, empty_edge}
-use Rattle.tf_btree.proofs.Children.{IsLeft, child_at, child_put, child_gone, child_filled, room_set}
+use Rattle.tf_btree.proofs.Children.{IsLeft, child_put, child_gone, child_filled, room_set}
 use Rattle.tf_btree.proofs.node.Node.+remove.Goals as goal
 use Rattle.tf_btree.proofs.node.Node.+remove.Goals.{then-len-eq0, else-len-eq0}
 
@@ -20,7 +15,7 @@ returns-in-Ok-clause-rows g t c = ap joined (same_parts c.remove_row.ensures.res
 pub returns-in-Ok-clause-value : goal.returns-in-Ok-clause-value
 returns-in-Ok-clause-value g t c =
     let at = c.in-Ok.ensures.found in
-    ap Some (entry_value c.args.self.now.parts c.in-Ok.at _ _ _ at.in_range at.row.2 c.remove_row.ensures.value) ∙ sym (value_found _ _ _ _ at)
+    ap Some (entry_value _ _ _ _ c.remove_row.ensures.value at.row.2) ∙ sym (value_found _ _ _ _ at)
 
 pub returns-in-Err-clause-rows : goal.returns-in-Err-clause-rows
 returns-in-Err-clause-rows g t c = sym (without_row_gap _ _ _ _ c.in-Err.ensures.absent)
@@ -30,28 +25,16 @@ returns-in-Err-clause-value g t c = sym (value_gap _ _ _ _ c.in-Err.ensures.abse
 
 pub remove-removed-requires : goal.remove-removed-requires
 remove-removed-requires g t c κs within =
-    let branch : c.self.inside.is_branch ≡ true = same_kind c.self.view_is ∙ sym c.is_branch.ensures ∙ c.if-not-is_branch.false in
+    let branch = sym c.is_branch.ensures ∙ c.if-not-is_branch.false in
     let child = child_at _ _ _ _ _ _ _ _ branch c.self.invariant.0 c.self.view_is c.find_child-at.ensures.in_range c.index_mut.ensures.value c.deref_mut-child.ensures.value in
-    let level = child.level in (
-      search rules,
-      (
-        search rules,
-        (
-          search rules,
-          (
-            search rules,
-            (
-              subst (λ r. IsRising g.K.Ord.cmp r) child.entry (rising_entry _ _ _ c.find_child-at.ensures.in_range c.requires.rising),
-              child.some,
-            ),
-          ),
-        ),
-      ),
-    )
+    let level = child.level in
+    let rising = child.rising g.K.Ord.cmp c.requires.rising in
+    let some = child.some in
+    search rules
 
 pub invariant_of-self : goal.invariant_of-self
 invariant_of-self g t c =
-    let branch : c.self.inside.is_branch ≡ true = same_kind c.self.view_is ∙ sym c.is_branch.ensures ∙ c.if-not-is_branch.false in
+    let branch = sym c.is_branch.ensures ∙ c.if-not-is_branch.false in
     let long = length-seen _ _ _ _ _ c.self.invariant.0 c.self.view_is in
     let shorter = length-remove c.self.inside.keys.items c.find_child-at.result (omega (arith, c.find_child-at.ensures.in_range)) in
     let gone = child_gone _ _ _ _ _ _ _ _ _ branch c.self.invariant.0 c.self.view_is c.remove.ensures.items c.remove-then-len-eq0.ensures.items in
@@ -60,12 +43,11 @@ invariant_of-self g t c =
 
 pub invariant_of-self-else-len-eq0 : goal.invariant_of-self-else-len-eq0
 invariant_of-self-else-len-eq0 g t c =
-    let branch : c.self.inside.is_branch ≡ true = same_kind c.self.view_is ∙ sym c.is_branch.ensures ∙ c.if-not-is_branch.false in
+    let branch = sym c.is_branch.ensures ∙ c.if-not-is_branch.false in
     let child = child_at _ _ _ _ _ _ _ _ branch c.self.invariant.0 c.self.view_is c.find_child-at.ensures.in_range c.index_mut.ensures.value c.deref_mut-child.ensures.value in
     let some = c.if-len-eq0.false in
     let long = c.len.ensures.value in
-    let level = child.level ∙ ap suc (sym (c.remove-removed.ensures.level (omega arith))) in
-    let put = child_put _ _ _ _ _ _ _ _ branch c.self.invariant.0 c.self.view_is c.find_child-at.ensures.in_range c.first-first.ensures.key level c.first-first.ensures.counted in
+    let put = child_put _ _ _ _ _ _ _ _ _ branch c.self.invariant.0 c.self.view_is c.find_child-at.ensures.in_range child c.first-first.ensures.key (c.remove-removed.ensures.level (omega arith)) c.first-first.ensures.counted in
     (put.node, room_set _ _ _ _ _ _ _ _ c.self.invariant.1)
 
 pub returns-in-Ok-clause-filled : goal.returns-in-Ok-clause-filled
@@ -80,13 +62,13 @@ returns-in-Err-clause-filled g t c = λ edge old. IsFilled-more edge (fill_of c.
 
 pub returns : goal.returns
 returns g t c =
-    let branch : c.self.inside.is_branch ≡ true = same_kind c.self.view_is ∙ sym c.is_branch.ensures ∙ c.if-not-is_branch.false in
+    let branch = sym c.is_branch.ensures ∙ c.if-not-is_branch.false in
     let child = child_at _ _ _ _ _ _ _ _ branch c.self.invariant.0 c.self.view_is c.find_child-at.ensures.in_range c.index_mut.ensures.value c.deref_mut-child.ensures.value in
     let at = c.find_child-at.ensures in
     let new = c.remove-removed.new.self in
     let less = without_row_child _ _ _ _ _ _ at child.entry c.remove-removed.ensures.rows in
     let done : (edge : Bool) → IsFilled edge (fill_of c.args.self.now) → IsFilled (edge_at edge c.args.self.now.fills c.find_child-at.result) (one_more (fill_of new)) =
-    λ edge old. c.remove-removed.ensures.filled (edge_at edge c.args.self.now.fills c.find_child-at.result) (child_filled edge _ c.args.self.now c.find_child-at.result c.deref_mut-child.result.now child refl old.below) in
+    λ edge old. c.remove-removed.ensures.filled (edge_at edge c.args.self.now.fills c.find_child-at.result) (child_filled edge _ c.args.self.now c.find_child-at.result c.deref_mut-child.result.now child at.in_range refl old.below) in
     let here : IsLeft g.K.Ord.cmp c.args.key.now c.find_child-at.result c.args.self.now c.if-len-eq0.self =
     elim c.if-len-eq0.branch [
       | then-len-eq0 w ↦
@@ -99,21 +81,20 @@ returns g t c =
             filled = λ edge old.
                 let off = empty_edge edge c.args.self.now.fills c.find_child-at.result (fill_of new) (done edge old) empty in
                 rw gone.fills (
-                  filled_more edge c.find_child-at.result (remove c.args.self.now.fills c.find_child-at.result) (filled_without edge c.args.self.now.fills c.find_child-at.result (fill_of new) child.within old.below (done edge old) empty),
+                  filled_more edge c.find_child-at.result (remove c.args.self.now.fills c.find_child-at.result) (filled_without edge c.args.self.now.fills c.find_child-at.result (omega (arith, child.fills, at.in_range)) old.below),
                   λ e. absurd (off e),
                 );
           }
       | else-len-eq0 w ↦
           let some = w.if-len-eq0.false in
           let long = c.len.ensures.value in
-          let level = child.level ∙ ap suc (sym (c.remove-removed.ensures.level (omega arith))) in
-          let put = child_put _ _ _ _ _ _ _ (with_value c.index_mut.result.now new) branch c.self.invariant.0 c.self.view_is at.in_range w.first-first.ensures.key level w.first-first.ensures.counted in
+          let put = child_put _ _ _ _ _ _ _ (with_value c.index_mut.result.now new) _ branch c.self.invariant.0 c.self.view_is at.in_range child w.first-first.ensures.key (c.remove-removed.ensures.level (omega arith)) w.first-first.ensures.counted in
           let same = length-set c.args.self.now.parts c.find_child-at.result (rows new) in
           rw w.self-is record {
             rows = rw put.parts (joined-set c.args.self.now.parts c.find_child-at.result (rows new) at.in_range ∙ less);
             height = λ more. put.height;
             filled = λ edge old. rw (put.fills, put.parts) (
-              filled_short edge c.args.self.now.fills c.find_child-at.result (fill_of new) child.within old.below (done edge old),
+              filled_short edge c.args.self.now.fills c.find_child-at.result (fill_of new) (omega (arith, child.fills, at.in_range)) old.below (done edge old),
               λ e. let n = old.half e in omega arith,
             );
           }
@@ -121,7 +102,7 @@ returns g t c =
     record {
       rows = c.mend.ensures.all ∙ here.rows;
       value = c.remove-removed.ensures.value ∙ sym (value_below _ _ _ _ at ∙ ap (λ r. value_at g.K.Ord.cmp c.args.key.now r) child.entry);
-      kind = c.mend.ensures.kind ∙ sym (sym (same_kind c.self.view_is) ∙ branch);
+      kind = c.mend.ensures.kind ∙ sym branch;
       level = λ some. c.mend.ensures.level ∙ here.height (c.mend.ensures.entries some);
       filled = λ edge old.
           let left = here.filled edge old in

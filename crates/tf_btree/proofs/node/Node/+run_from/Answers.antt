@@ -1,12 +1,13 @@
-use Rattle.std.proofs.Common.{rules, IsSome, ◌∙◌, ap, subst}
-use Rattle.tf_btree.specs.Rows.{IsRising, value_at}
-use Rattle.tf_btree.proofs.Placed.{value_below, rising_entry}
+use Rattle.tf_btree.proofs.Words.{rules, IsSome, ◌∙◌, ap, subst, value_at}
+use Rattle.tf_btree.proofs.Placed.{value_below}
 use Rattle.tf_btree.proofs.RunLemmas.{branch_run, bottom_run}
 use Rattle.tf_btree.proofs.node.Node.+run_from.Goals as goal
 
 pub leaf_run-requires-then-is_leaf-2-clause-rising : goal.leaf_run-requires-then-is_leaf-2-clause-rising
-leaf_run-requires-then-is_leaf-2-clause-rising g t c =
-    subst (λ r. IsRising g.K.Ord.cmp r) c.child-child.ensures.entry (rising_entry _ _ _ c.find_child-at.ensures.in_range c.requires.rising)
+leaf_run-requires-then-is_leaf-2-clause-rising g t c = c.child-child.ensures.rising g.K.Ord.cmp c.requires.rising
+
+pub run_from-run-requires : goal.run_from-run-requires
+run_from-run-requires g t c κs within = let rising = c.child-child.ensures.rising g.K.Ord.cmp c.requires.rising in search rules
 
 pub returns-then-is_leaf-2-clause-all : goal.returns-then-is_leaf-2-clause-all
 returns-then-is_leaf-2-clause-all g t c =
@@ -16,24 +17,6 @@ pub returns-then-is_leaf-2-clause-found : goal.returns-then-is_leaf-2-clause-fou
 returns-then-is_leaf-2-clause-found g t c = λ some.
     let same = value_below _ _ _ _ c.find_child-at.ensures ∙ ap (λ r. value_at g.K.Ord.cmp c.args.key.now r) c.child-child.ensures.entry in
     c.leaf_run-then-is_leaf-2.ensures.found (subst (λ o. IsSome o) same some)
-
-pub run_from-run-requires : goal.run_from-run-requires
-run_from-run-requires g t c κs within = (
-  search rules,
-  (
-    search rules,
-    (
-      search rules,
-      (
-        search rules,
-        (
-          subst (λ r. IsRising g.K.Ord.cmp r) c.child-child.ensures.entry (rising_entry _ _ _ c.find_child-at.ensures.in_range c.requires.rising),
-          c.child-child.ensures.some,
-        ),
-      ),
-    ),
-  ),
-)
 
 pub returns-clause-all : goal.returns-clause-all
 returns-clause-all g t c = rw c.or.ensures (branch_run _ _ _ _ _ _ _ _ _ _ c.find_child-at.ensures c.child-child.ensures.entry c.run_from-run.ensures.all c.key_behind-behind.ensures)

@@ -1,6 +1,4 @@
-use Rattle.std.proofs.Common.{sym, ◌∙◌, ap}
-use Rattle.std.proofs.lemmas.List.{append-nil}
-use Rattle.tf_btree.specs.Subtree.{joined, rows}
+use Rattle.tf_btree.proofs.Words.{sym, ◌∙◌, ap, append-nil, joined, rows}
 use Rattle.tf_btree.proofs.Entries.{same_parts}
 use Rattle.tf_btree.proofs.Placed.{value_gap}
 use Rattle.tf_btree.proofs.Edited.{with_row_gap}

@@ -1,33 +1,39 @@
-use Rattle.std.proofs.Common.{sym, ◌∙◌, arith}
-use Rattle.std.proofs.lemmas.List.{length-append, map-append}
-use Rattle.tf_btree.specs.Node.{unbox}
-use Rattle.tf_btree.proofs.Entries.{same_kind, same_height, length-seen, room_after, leaf_append_node, leaf_append_view, branch_append_node}
+use Rattle.tf_btree.proofs.Words.{sym, ◌∙◌, arith, length-append, map-append, unbox}
+use Rattle.tf_btree.proofs.Runs.{leaf_node, single_rows-append, AllChildren-append}
+use Rattle.tf_btree.proofs.Entries.{mapped, same_kind, length-seen, room_after, branch_node}
 use Rattle.tf_btree.proofs.node.Node.append.Goals as goal
 
 pub invariant_of-self : goal.invariant_of-self
 invariant_of-self g c =
-    let long = length-seen _ _ _ _ _ c.self.invariant.0 c.self.view_is in
-    let more = length-seen _ _ _ _ _ c.right.invariant.0 c.right.view_is in
     let branch = same_kind c.right.view_is ∙ c.requires.kind ∙ sym (same_kind c.self.view_is) ∙ c.if-self.true in
-    let level = same_height c.self.view_is ∙ c.requires.level ∙ sym (same_height c.right.view_is) in
+    let old = rw c.if-self.true at c.self.invariant in
+    let more = rw branch at c.right.invariant in
+    let level = rw (← c.self.view_is, ← c.right.view_is, c.if-self.true, branch) at c.requires.level in
+    let long = length-seen _ _ _ _ _ c.self.invariant.0 c.self.view_is in
+    let longer = length-seen _ _ _ _ _ c.right.invariant.0 c.right.view_is in
     let both = length-append c.self.inside.keys.items c.right.inside.keys.items in
-    rw (c.move_all.ensures.all, c.move_all-then-self.ensures.all, map-append unbox c.self.inside.children.items c.right.inside.children.items) (
-      branch_append_node _ _ _ _ _ _ _ _ c.if-self.true c.self.invariant.0 branch c.right.invariant.0 level,
-      room_after _ _ _ _ _ _ _ _ _ _ c.self.invariant.1 (omega arith) (omega arith) (omega arith) (omega arith),
+    rw (c.move_all.ensures.all, c.move_all-then-self.ensures.all, map-append unbox c.self.inside.children.items c.right.inside.children.items, c.if-self.true) (
+      branch_node _ _ _ _ old.0.kind.0 (AllChildren-append _ _ _ old.0.kind.1 (rw (← level) at more.0.kind.1)) (simp (mapped, old.0.first_keys, more.0.first_keys)),
+      room_after _ _ _ _ _ _ _ _ _ _ old.1 (omega arith) (omega arith) (omega arith) (omega arith),
     )
 
 pub invariant_of-self-else-self : goal.invariant_of-self-else-self
 invariant_of-self-else-self g c =
-    let long = length-seen _ _ _ _ _ c.self.invariant.0 c.self.view_is in
-    let more = length-seen _ _ _ _ _ c.right.invariant.0 c.right.view_is in
     let leaf = same_kind c.right.view_is ∙ c.requires.kind ∙ sym (same_kind c.self.view_is) ∙ c.if-self.false in
-    let both = length-append c.self.inside.keys.items c.right.inside.keys.items in
-    rw (c.move_all.ensures.all, c.move_all-else-self.ensures.all) (
-      leaf_append_node _ _ _ _ _ _ _ _ c.if-self.false c.self.invariant.0 leaf c.right.invariant.0,
-      room_after _ _ _ _ _ _ _ _ _ _ c.self.invariant.1 (omega arith) (omega arith) (omega arith) (omega arith),
+    let old = rw c.if-self.false at c.self.invariant in
+    let more = rw leaf at c.right.invariant in
+    let long = length-seen _ _ _ _ _ c.self.invariant.0 c.self.view_is in
+    let longer = length-seen _ _ _ _ _ c.right.invariant.0 c.right.view_is in
+    let keys = length-append c.self.inside.keys.items c.right.inside.keys.items in
+    let values = length-append c.self.inside.values.items c.right.inside.values.items in
+    rw (c.move_all.ensures.all, c.move_all-else-self.ensures.all, c.if-self.false) (
+      leaf_node _ _ _ old.0.kind.0 (omega (arith, old.0.kind.1, more.0.kind.1)),
+      room_after _ _ _ _ _ _ _ _ _ _ old.1 (omega arith) (omega arith) (omega arith) (omega arith),
     )
 
 pub returns-else-self : goal.returns-else-self
 returns-else-self g c =
     let leaf = same_kind c.right.view_is ∙ c.requires.kind ∙ sym (same_kind c.self.view_is) ∙ c.if-self.false in
-    record { all = rw (c.move_all.ensures.all, c.move_all-else-self.ensures.all, ← c.self.view_is, ← c.right.view_is) (leaf_append_view _ _ _ _ _ _ _ _ c.if-self.false c.self.invariant.0 leaf c.right.invariant.0) }
+    let old = rw c.if-self.false at c.self.invariant in
+    let more = rw leaf at c.right.invariant in
+    record { all = rw (c.move_all.ensures.all, c.move_all-else-self.ensures.all, ← c.self.view_is, ← c.right.view_is, c.if-self.false, leaf, old.0.kind.0, more.0.kind.0) (rw (single_rows-append c.self.inside.keys.items c.right.inside.keys.items c.self.inside.values.items c.right.inside.values.items old.0.kind.1)) }

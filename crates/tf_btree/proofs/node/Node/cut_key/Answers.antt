@@ -1,4 +1,4 @@
-use Rattle.std.proofs.Common.{arith}
+use Rattle.tf_btree.proofs.Words.{arith}
 use Rattle.tf_btree.proofs.Entries.{length-seen}
 use Rattle.tf_btree.proofs.Within.{cut_some}
 use Rattle.tf_btree.proofs.node.Node.cut_key.Goals as goal

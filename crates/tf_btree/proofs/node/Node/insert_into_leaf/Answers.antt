@@ -1,6 +1,4 @@
-use Rattle.std.proofs.Common.{Some, sym, ◌∙◌, ap}
-use Rattle.std.proofs.lemmas.List.{append-nil}
-use Rattle.tf_btree.specs.Subtree.{joined, rows}
+use Rattle.tf_btree.proofs.Words.{Some, sym, ◌∙◌, ap, append-nil, joined, rows}
 use Rattle.tf_btree.proofs.Entries.{same_parts}
 use Rattle.tf_btree.proofs.Placed.{value_found}
 use Rattle.tf_btree.proofs.Edited.{with_row_at}

@@ -1,6 +1,4 @@
-use Rattle.std.proofs.Common.{Some, sym, ◌∙◌, ap, arith}
-use Rattle.tf_btree.specs.Subtree.{joined}
-use Rattle.tf_btree.specs.Node.{first_key}
+use Rattle.tf_btree.proofs.Words.{Some, sym, ◌∙◌, ap, arith, joined, first_key}
 use Rattle.tf_btree.proofs.Entries.{same_parts}
 use Rattle.tf_btree.proofs.Placed.{value_gap, value_found}
 use Rattle.tf_btree.proofs.Edited.{with_row_at, with_row_gap}
@@ -29,4 +27,4 @@ returns-else-len-eq-CAPACITY-clause-value g c = sym (value_gap _ _ _ _ c.in-Err.
 pub returns-else-len-eq-CAPACITY-clause-first : goal.returns-else-len-eq-CAPACITY-clause-first
 returns-else-len-eq-CAPACITY-clause-first g c =
     ap (λ p. first_key (joined p)) (same_parts c.insert_row.ensures)
-    ∙ first-insert c.args.self.now.parts c.in-Err.at _ (omega arith) (first_part _ _ _ _ _ c.self.invariant.0 c.self.view_is c.requires.some)
+    ∙ first-insert c.args.self.now.parts c.in-Err.at _ (omega arith) c.in-Err.ensures.absent.in_range (first_part _ _ _ _ _ c.self.invariant.0 c.self.view_is c.requires.some)

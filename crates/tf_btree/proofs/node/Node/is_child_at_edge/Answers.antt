@@ -1,4 +1,4 @@
-use Rattle.std.proofs.Common.{refl, sym, ◌∙◌, arith}
+use Rattle.tf_btree.proofs.Words.{refl, sym, ◌∙◌, arith}
 use Rattle.tf_btree.proofs.Filled.{edge_at_on}
 use Rattle.tf_btree.proofs.node.Node.is_child_at_edge.Goals as goal
 

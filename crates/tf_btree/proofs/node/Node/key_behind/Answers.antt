@@ -1,4 +1,4 @@
-use Rattle.std.proofs.Common.{◌+◌, ◌<◌, ◌≤◌, length, arith}
+use Rattle.tf_btree.proofs.Words.{◌+◌, ◌<◌, ◌≤◌, length, arith}
 use Rattle.tf_btree.proofs.Entries.{length-seen}
 use Rattle.tf_btree.proofs.Placed.{behind_some, behind_none}
 use Rattle.tf_btree.proofs.node.Node.key_behind.Goals as goal

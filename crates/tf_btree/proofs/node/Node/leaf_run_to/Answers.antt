@@ -1,4 +1,4 @@
-use Rattle.std.proofs.Common.{◌∙◌}
+use Rattle.tf_btree.proofs.Words.{◌∙◌}
 use Rattle.tf_btree.proofs.Entries.{same_kind}
 use Rattle.tf_btree.proofs.Within.{leaf_to}
 use Rattle.tf_btree.proofs.node.Node.leaf_run_to.Goals as goal

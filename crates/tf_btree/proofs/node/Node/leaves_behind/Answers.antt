@@ -1,15 +1,12 @@
-use Rattle.std.proofs.Common.{◌+◌, ◌∙◌}
-use Rattle.std.proofs.lemmas.List.{take_rest}
+use Rattle.tf_btree.proofs.Words.{◌+◌, ◌∙◌, take_rest}
 use Rattle.tf_btree.proofs.Entries.{same_kind}
 use Rattle.tf_btree.proofs.Leaves.{behind_rows, behind_filled}
 use Rattle.tf_btree.proofs.node.Node.leaves_behind.Goals as goal
 
-pub returns-clause-all : goal.returns-clause-all
-returns-clause-all g c =
+pub returns : goal.returns
+returns g c =
     let branch = same_kind c.self.view_is ∙ c.requires.branch in
-    rw (take_rest c.deref.result.now (c.args.at + 1), c.deref.ensures.value) (behind_rows _ _ _ _ _ _ c.self.invariant.0 c.self.view_is branch c.requires.level)
-
-pub returns-clause-filled : goal.returns-clause-filled
-returns-clause-filled g c =
-    let branch = same_kind c.self.view_is ∙ c.requires.branch in
-    rw (take_rest c.deref.result.now (c.args.at + 1), c.deref.ensures.value) (behind_filled _ _ _ _ _ _ c.self.invariant.0 c.self.view_is branch c.requires.level)
+    rw (take_rest c.deref.result.now (c.args.at + 1), c.deref.ensures.value) record {
+      all = behind_rows _ _ _ _ _ _ c.self.invariant.0 c.self.view_is branch c.requires.level;
+      filled = behind_filled _ _ _ _ _ _ c.self.invariant.0 c.self.view_is branch c.requires.level;
+    }

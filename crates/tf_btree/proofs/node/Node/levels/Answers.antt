@@ -1,4 +1,4 @@
-use Rattle.std.proofs.Common.{arith}
+use Rattle.tf_btree.proofs.Words.{arith}
 use Rattle.tf_btree.proofs.Height.{is_counted, is_tall, height_below}
 use Rattle.tf_btree.proofs.node.Node.levels.Goals as goal
 

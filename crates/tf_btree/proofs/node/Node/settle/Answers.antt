@@ -1,6 +1,4 @@
-use Rattle.std.proofs.Common.{◌+◌, ◌∙◌, sym}
-use Rattle.std.proofs.lemmas.List.{append-nil}
-use Rattle.tf_btree.specs.Subtree.{rows}
+use Rattle.tf_btree.proofs.Words.{◌+◌, ◌∙◌, sym, append-nil, rows}
 use Rattle.tf_btree.proofs.Parts.{joined-insert_none}
 use Rattle.tf_btree.proofs.node.Node.settle.Goals as goal
 

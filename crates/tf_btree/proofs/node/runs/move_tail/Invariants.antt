@@ -1,4 +1,4 @@
-use Rattle.std.proofs.Common.{◌≡◌, ◌+◌, ◌≤◌, ◌++◌, length, vec_capacity}
+use Rattle.tf_btree.proofs.Words.{◌≡◌, ◌+◌, ◌≤◌, ◌++◌, length, vec_capacity}
 use Rattle.tf_btree.proofs.node.runs.move_tail.Given as goal
 
 abbrev pub invariant-loop-from : goal.invariant-loop-from

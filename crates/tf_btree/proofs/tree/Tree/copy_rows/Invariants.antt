@@ -1,4 +1,4 @@
-use Rattle.std.proofs.Common.{◌≡◌, ◌++◌, length}
+use Rattle.tf_btree.proofs.Words.{◌≡◌, ◌++◌, length}
 use Rattle.tf_btree.proofs.tree.Tree.copy_rows.Given as goal
 
 abbrev pub invariant-loop-key : goal.invariant-loop-key

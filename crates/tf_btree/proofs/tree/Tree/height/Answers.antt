@@ -1,5 +1,4 @@
-use Rattle.std.proofs.Common.{length, ap, arith}
-use Rattle.tf_btree.specs.Tree.{rows_under}
+use Rattle.tf_btree.proofs.Words.{length, ap, arith, rows_under}
 use Rattle.tf_btree.proofs.tree.Tree.height.Goals as goal
 
 pub levels-requires-clause-fits : goal.levels-requires-clause-fits

@@ -1,5 +1,5 @@
-use Rattle.std.proofs.Common.{sym, ◌∙◌}
-use Rattle.tf_btree.proofs.Count.{count_left, counted_row, tree_without}
+use Rattle.tf_btree.proofs.Words.{sym, ◌∙◌, arith}
+use Rattle.tf_btree.proofs.Count.{counted_row, tree_without}
 use Rattle.tf_btree.proofs.tree.Tree.remove.Goals as goal
 
 pub invariant_of-self : goal.invariant_of-self
@@ -10,4 +10,4 @@ invariant_of-self g c =
 pub invariant_of-self-else-is_some : goal.invariant_of-self-else-is_some
 invariant_of-self-else-is_some g c =
     let old = c.remove_at_root-removed.ensures in
-    tree_without _ g.met.K.Ord.total _ _ _ _ _ c.self.invariant old.all old.root (count_left _ _ _ old.value (sym c.is_some.ensures ∙ c.if-is_some.false))
+    tree_without _ g.met.K.Ord.total _ _ _ _ _ c.self.invariant old.all old.root (rw (← old.value, ← c.is_some.ensures, c.if-is_some.false) (omega arith))
