@@ -10,3 +10,6 @@ pub mod Pairs
 pub mod Journals
 pub mod OneValue
 pub mod Spelled
+pub mod Views
+pub mod Answered
+pub mod ByKind

@@ -5,6 +5,7 @@ use Rattle.tf_btree.specs.Rows.{with_row, without_row}
 use Rattle.tf_table.specs.declared.key.Key.{Key}
 use Rattle.tf_table.specs.Key.{key_cmp}
 use Rattle.tf_table.specs.Content.{entry_at, entry_of, first_some}
+use Rattle.tf_table.specs.Mutable.{given_back}
 use Rattle.tf_manifest.specs.Table.{Shown}
 use Rattle.tf_manifest.specs.Row.{lists_of, SameContent}
 use Rattle.tf_manifest.specs.Whole.{Whole, row_at, SameRow, Enters, Puts, IsRestored}
@@ -19,12 +20,16 @@ module _ {V : Type 0} where
     tables = t;
   }
 
-  pub removed : (key : Key) (old new : Whole V) → new.fresh ≡ without_row key_cmp key old.fresh → new.tables ≡ old.tables → Enters key None old new
+  removed : (key : Key) (old new : Whole V) → new.fresh ≡ without_row key_cmp key old.fresh → new.tables ≡ old.tables → Enters key None old new
   removed key old new e t = record {
     here = ap (entry_at key) e ∙ without_row-here key old.fresh;
     elsewhere = λ k n. ap (entry_at k) e ∙ without_row-there key k old.fresh n;
     tables = t;
   }
+
+  pub gave_back : (key : Key) (before : Option (Option V)) (old new : Whole V) → new.fresh ≡ given_back key before old.fresh → new.tables ≡ old.tables → Enters key before old new
+  gave_back key None old new e t = removed key old new e t
+  gave_back key (Some entry) old new e t = entered key entry old new e t
 
   over : (k : Key) (a b : Whole V) → entry_at k a.fresh ≡ entry_at k b.fresh → a.tables ≡ b.tables → row_at k a ≡ row_at k b
   over k a b e t =

@@ -1,24 +1,31 @@
 -- What a refused install says.
-use Rattle.std.specs.Prelude.{⊤}
-use Rattle.tf_manifest.specs.Run.{Output}
-use Rattle.tf_manifest.specs.declared.uninstalled.RowUninstalled.{RowUninstalled}
-use Rattle.tf_manifest.specs.declared.uninstalled.RowUninstalled.TheVariants.{NoMemory, Stale, RegistryFull}
+use Rattle.std.specs.Prelude.{Result, Ok, Err, ⊤}
+use Rattle.tf_manifest.specs.declared.uninstalled.Uninstalled.{Uninstalled}
+use Rattle.tf_manifest.specs.declared.uninstalled.Uninstalled.TheVariants.{NoMemory, Stale, RegistryFull}
 
-module _ {V A N : Type 0} where
+module _ {M : Type 0} where
   -- P, if the run wasn't there
-  abbrev pub OnStale : RowUninstalled V A N → Type 0 → Type 0
+  abbrev pub OnStale : Uninstalled M → Type 0 → Type 0
   OnStale (NoMemory m) P = ⊤
   OnStale Stale P = P
   OnStale RegistryFull P = ⊤
 
   -- P, if the limit was reached
-  abbrev pub OnFull : RowUninstalled V A N → Type 0 → Type 0
+  abbrev pub OnFull : Uninstalled M → Type 0 → Type 0
   OnFull (NoMemory m) P = ⊤
   OnFull Stale P = ⊤
   OnFull RegistryFull P = P
 
   -- P of the merged table that is handed back, if there was no memory
-  abbrev pub IfNoMemory : RowUninstalled V A N → (Output V → Type 0) → Type 0
+  abbrev pub IfNoMemory : Uninstalled M → (M → Type 0) → Type 0
   IfNoMemory (NoMemory m) P = P m
   IfNoMemory Stale P = ⊤
   IfNoMemory RegistryFull P = ⊤
+
+-- both answers say the same, and what is handed back is alike
+abbrev pub AnswersAlike : {M K : Type 0} → (M → K → Type 0) → Result (Unit {0}) (Uninstalled M) → Result (Unit {0}) (Uninstalled K) → Type 0
+AnswersAlike Alike (Ok done) (Ok told) = ⊤
+AnswersAlike Alike (Err (NoMemory m)) (Err (NoMemory k)) = Alike m k
+AnswersAlike Alike (Err Stale) (Err Stale) = ⊤
+AnswersAlike Alike (Err RegistryFull) (Err RegistryFull) = ⊤
+AnswersAlike Alike answer told = ⊥

@@ -1,7 +1,10 @@
 -- A row with its mutable table.
 use Rattle.std.specs.Prelude.{◌≡◌, ◌≢◌, List, ◌∷◌, Option}
+use Rattle.tf_btree.specs.Rows.{with_row}
 use Rattle.tf_table.specs.declared.key.Key.{Key}
+use Rattle.tf_table.specs.Key.{key_cmp}
 use Rattle.tf_table.specs.Content.{entry_at}
+use Rattle.tf_table.specs.Mutable.{given_back}
 use Rattle.tf_manifest.specs.Table.{Table, Shown}
 use Rattle.tf_manifest.specs.Row.{lists_of, value_in, is_nil}
 
@@ -21,6 +24,14 @@ SameRow old new = (key : Key) → row_at key new ≡ row_at key old
 -- the mutable table as a sealed one
 abbrev pub sealed_of : {V : Type 0} → Whole V → Table V
 sealed_of row = record { rows = row.fresh; level = 0; oldest = is_nil row.tables }
+
+-- the row with an entry of a key in the mutable table
+abbrev pub with_entry : {V : Type 0} → Key → Option V → Whole V → Whole V
+with_entry key entry row = record row { fresh = with_row key_cmp key entry row.fresh }
+
+-- the row with the entry that a key had before in the mutable table, or without the key there
+abbrev pub with_back : {V : Type 0} → Key → Option (Option V) → Whole V → Whole V
+with_back key before row = record row { fresh = given_back key before row.fresh }
 
 -- one key has this entry in the mutable table, or none, and all else is as it was
 pub record Enters {V : Type 0} (key : Key) (entry : Option (Option V)) (old new : Whole V) : Type 0 where

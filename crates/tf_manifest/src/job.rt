@@ -51,7 +51,7 @@ impl<'r, V: RowValue, A: Allocator + Clone, N: Naming> RowJob<'r, V, A, N> {
     /// It goes over both tables once, takes no lock and doesn't wait. The only refusal is `NoMemory`.
     pub fn merge(&self, alloc: A) -> Result<RowMerged<'r, V, A, N>, Refusal>
         ensures run { IfOk result (λ merged. merged.run ≡ self.now) }
-        ensures merges { IfOk result (λ merged. IsMergeOf self.now merged.table) }
+        ensures merges { IfOk result (λ merged. IsMergeOf merged.run merged.table) }
         ensures err { IfErr result (λ refusal. refusal ≡ Refusal.NoMemory) }
     {
         let newer = self.newer;

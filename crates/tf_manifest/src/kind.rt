@@ -25,6 +25,16 @@ impl StampRow {
             StampRow::ExpiryEntries => 1,
         }
     }
+
+    /// Its name among all rows.
+    pub fn row(self) -> Row
+        ensures { kind_of result ≡ Kind.Stamp self }
+    {
+        match self {
+            StampRow::AccountIds => Row::AccountIds,
+            StampRow::ExpiryEntries => Row::ExpiryEntries,
+        }
+    }
 }
 
 /// A row that stores nothing beside its keys.
@@ -56,6 +66,27 @@ impl UnitRow {
     {
         self as usize
     }
+
+    /// Its name among all rows.
+    pub fn row(self) -> Row
+        ensures { kind_of result ≡ Kind.Unit self }
+    {
+        match self {
+            UnitRow::AccountUserData128 => Row::AccountUserData128,
+            UnitRow::AccountUserData64 => Row::AccountUserData64,
+            UnitRow::AccountUserData32 => Row::AccountUserData32,
+            UnitRow::AccountLedger => Row::AccountLedger,
+            UnitRow::AccountCode => Row::AccountCode,
+            UnitRow::TransferDebit => Row::TransferDebit,
+            UnitRow::TransferCredit => Row::TransferCredit,
+            UnitRow::TransferUserData128 => Row::TransferUserData128,
+            UnitRow::TransferUserData64 => Row::TransferUserData64,
+            UnitRow::TransferUserData32 => Row::TransferUserData32,
+            UnitRow::TransferLedger => Row::TransferLedger,
+            UnitRow::TransferCode => Row::TransferCode,
+            UnitRow::Expiry => Row::Expiry,
+        }
+    }
 }
 
 /// A row, by the kind of value that it stores.
@@ -75,6 +106,24 @@ pub enum Kind {
     Sums,
     /// pending_status.
     Status,
+}
+
+impl Kind {
+    /// The name of the row.
+    pub fn row(self) -> Row
+        ensures { kind_of result ≡ self }
+    {
+        match self {
+            Kind::Stamp(row) => row.row(),
+            Kind::Account => Row::AccountObjects,
+            Kind::Transfer => Row::TransferObjects,
+            Kind::Id => Row::TransferIds,
+            Kind::Unit(row) => row.row(),
+            Kind::State => Row::AccountSums,
+            Kind::Sums => Row::History,
+            Kind::Status => Row::PendingStatus,
+        }
+    }
 }
 
 impl Row {

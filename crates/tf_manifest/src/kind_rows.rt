@@ -1,14 +1,15 @@
 //! The rows that store one kind of value.
-ghost use Rattle.std.specs.Prelude.{◌≡◌, ◌<◌, [], ◌∷◌, length, replicate, slice_index_or, slice_set, OnOk, OnErr, IfErr};
+ghost use Rattle.std.specs.Prelude.{◌≡◌, ◌<◌, ◌≤◌, [], ◌∷◌, length, replicate, slice_index_or, slice_set, OnOk, OnErr, IfOk, IfErr};
 ghost use Rattle.std.specs.Option.{option_map};
 ghost use Rattle.tf_manifest.specs.Reference.{shown_of};
 ghost use Rattle.tf_manifest.specs.Row.{content_at, is_nil, weight};
 ghost use Rattle.tf_manifest.specs.Install.{OnStale, OnFull, IfNoMemory};
 ghost use Rattle.tf_manifest.specs.Limit.{one_more};
-ghost use Rattle.tf_manifest.specs.Run.{Stands, InstallsAt};
+ghost use Rattle.tf_manifest.specs.Run.{IsMergeOf, Stands, InstallsAt};
 
 use crate::{
-    Naming, Pushes, Registry, RowMerged, RowUninstalled, RowValue, TableRef, Tables, Value,
+    Body, Naming, Pushes, Registry, RowJob, RowMerged, RowUninstalled, RowValue, TableRef, Tables,
+    Value,
 };
 use arrayvec::ArrayVec;
 use std::alloc::Allocator;
@@ -56,6 +57,24 @@ impl<'r, V: RowValue, A: Allocator, N: Naming, const COUNT: usize> KindRows<'r, 
         KindRows { registry, list }
     }
 
+    /// A copy, by one pass over the references in use. It takes no memory.
+    pub fn again(&self) -> KindRows<'r, V, A, N, COUNT>
+        ensures { result ≡ self.now }
+    {
+        let mut copy = KindRows::new(self.registry);
+        copy.copy_from(self);
+        copy
+    }
+
+    /// The number of tables of the row at a place, at most 64.
+    pub fn references(&self, at: usize) -> u32
+        requires { at < COUNT }
+        ensures value { result ≡ length (slice_index_or self.now at []) }
+        ensures fits { result ≤ 64 }
+    {
+        self.row(at).len() as u32
+    }
+
     /// The tables of the row at a place.
     #[inline]
     pub fn row(&self, at: usize) -> &Tables<'r, V, A, N>
@@ -89,6 +108,18 @@ impl<'r, V: RowValue, A: Allocator, N: Naming, const COUNT: usize> KindRows<'r, 
         self.list.as_mut_slice()[at].add(table);
     }
 
+    /// Puts a merged table that was pushed already in the place of its run in the row at a place, as `Tables::replace`
+    /// does.
+    pub fn replace(&mut self, at: usize, job: &RowJob<'r, V, A, N>, out: TableRef<'r, V, A, N>)
+        requires at { at < COUNT }
+        requires stands { Stands (slice_index_or self.old at []) job.now }
+        requires merges { IsMergeOf job.now (shown_of out).table }
+        ensures { InstallsAt self.old at (record { run = job.now; table = (shown_of out.entry).table }) self.new }
+    {
+        let registry = self.registry;
+        self.list.as_mut_slice()[at].replace(registry, job, out);
+    }
+
     /// Makes these tables those of `other`, by one pass over the references in use. It takes no memory.
     pub fn copy_from(&mut self, other: &KindRows<'r, V, A, N, COUNT>)
         ensures { self.new ≡ other.now }
@@ -106,6 +137,26 @@ impl<'r, V: RowValue, A: Allocator + Clone, N: Naming, const COUNT: usize> KindR
     N,
     COUNT,
 > {
+    /// Pushes a table into the registry of these rows, and counts it. It may wait while another push makes room.
+    ///
+    /// For want of memory an `Err` hands the table back, and nothing was pushed.
+    pub fn push<R: Wait>(
+        &self,
+        rt: &R,
+        pushes: &mut Pushes,
+        body: Body<V, A>,
+    ) -> Result<TableRef<'r, V, A, N>, Body<V, A>>
+        requires { pushes.old.count < pushes.old.limit }
+        ensures pushed { IfOk result (λ t. (shown_of t).table ≡ body) }
+        ensures counted { OnOk result (pushes.new ≡ one_more pushes.old) }
+        ensures back { IfErr result (λ b. b ≡ body) }
+        ensures err { OnErr result (pushes.new ≡ pushes.old) }
+    {
+        let table = self.registry.push(rt, body)?;
+        pushes.add();
+        Ok(table)
+    }
+
     /// Puts a merged table in the place of its run in the row at a place, as `Tables::install` does.
     pub fn install<R: Wait>(
         &mut self,

@@ -24,6 +24,9 @@ impl<T: Copy> Repeats for Stored<T> {
 }
 
 impl Repeats for IdStamp {
+    /// Most tables of a row of ids don't have the id that is looked for.
+    const FILTERED: bool = true;
+
     /// Always false: no two ids have one timestamp.
     fn repeats(&self, _other: &IdStamp) -> bool
         ensures { result ≡ false }

@@ -9,6 +9,7 @@ ghost use Rattle.tf_journal.specs.declared.entry.Entry.{Entry};
 ghost use Rattle.tf_journal.specs.Lawful.{IsSound};
 ghost use Rattle.tf_manifest.specs.Rows.{Pair, rows_of};
 ghost use Rattle.tf_manifest.specs.Shows.{Content, Lists, Shows, SpellAlike, journal_of, value_of};
+ghost use Rattle.tf_manifest.specs.View.{View, ShowsJournal, content_in};
 ghost use Rattle.tf_table.specs.declared.key.Key.{Key};
 
 use crate::{Row, Value};
@@ -39,4 +40,13 @@ pub fn rows_spell_their_journal()
 {
     ids_are_unique();
     // The pairs of the four rows name each entry once.
+}
+
+/// A manifest shows at most one journal, which the pairs of four of its rows spell. Does nothing.
+pub fn manifest_shows_one_journal()
+    ensures one { (view : View) (first second : List Entry) → IsSound first → IsSound second → ShowsJournal view first → ShowsJournal view second → first ≡ second }
+    ensures spelled { (view : View) (pairs : Row → List Pair) (journal : List Entry) → IsSound journal → ShowsJournal view journal → Lists pairs (content_in view) → journal_of pairs ≡ journal }
+{
+    rows_show_one_journal();
+    rows_spell_their_journal();
 }

@@ -11,7 +11,11 @@ use std::alloc::Allocator;
 use std::process::Abort;
 use std::sync::Wait;
 use std::test::Fail;
+use tf_btree::Tree;
 use tf_table::Key;
+
+/// A row whose mutable table is a tree.
+type TreeRow<'r, A, N> = WholeRow<'r, u64, Tree<Key, Option<u64>, A>, A, N>;
 
 /// A key with this value, of a record with timestamp 1.
 fn key(value: u64) -> Key {
@@ -26,7 +30,7 @@ fn grow<'r, A: Allocator + Clone, N: Naming, R: Wait>(
     rt: &R,
     alloc: A,
     registry: &'r Registry<u64, A>,
-    row: &mut WholeRow<'r, u64, A, N>,
+    row: &mut TreeRow<'r, A, N>,
     value: u64,
 ) -> Result<(), Fail>
     requires here { registry.now ≡ N.shelf 0 }
@@ -49,7 +53,7 @@ fn five_tables<'r, A: Allocator + Clone, N: Naming, R: Wait>(
     rt: &R,
     alloc: &A,
     registry: &'r Registry<u64, A>,
-) -> Result<WholeRow<'r, u64, A, N>, Fail>
+) -> Result<TreeRow<'r, A, N>, Fail>
     requires here { registry.now ≡ N.shelf 0 }
     ensures weight { IfOk result (λ row. weight row.tables ≡ 5) }
     ensures length { IfOk result (λ row. length row.tables ≡ 5) }
@@ -66,7 +70,7 @@ fn five_tables<'r, A: Allocator + Clone, N: Naming, R: Wait>(
 /// The row's content has exactly the numbers below this one.
 fn assert_content<A: Allocator + Clone, N: Naming>(
     rt: &impl Abort,
-    row: &WholeRow<'_, u64, A, N>,
+    row: &TreeRow<'_, A, N>,
     rows: u64,
 ) {
     for value in 0..rows {

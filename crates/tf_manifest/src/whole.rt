@@ -1,13 +1,15 @@
 //! A row with its mutable table.
-ghost use Rattle.std.specs.Prelude.{◌≡◌, ◌<◌, [], ◌∷◌, length, Option, Some, IsSome, IfOk, IfErr, OnOk, OnErr};
+ghost use Rattle.std.specs.Prelude.{◌≡◌, ◌<◌, [], ◌∷◌, length, Option, IsSome, IfOk, IfErr, OnOk, OnErr};
 ghost use Rattle.std.specs.Option.{option_copied};
+ghost use Rattle.tf_btree.specs.Rows.{IsRising};
 ghost use Rattle.tf_table.specs.Content.{entry_at};
+ghost use Rattle.tf_table.specs.Key.{key_cmp};
 ghost use Rattle.tf_manifest.specs.Install.{OnStale, OnFull, IfNoMemory};
 ghost use Rattle.tf_manifest.specs.Limit.{one_more};
 ghost use Rattle.tf_manifest.specs.Reference.{shown_of};
 ghost use Rattle.tf_manifest.specs.Row.{weight};
 ghost use Rattle.tf_manifest.specs.Run.{IsMergeOf, Stands, Installs};
-ghost use Rattle.tf_manifest.specs.Whole.{Whole, row_at, SameRow, sealed_of, Enters, Puts, IsRestored};
+ghost use Rattle.tf_manifest.specs.Whole.{Whole, row_at, SameRow, sealed_of, with_entry, with_back, Enters, Puts, IsRestored};
 
 use crate::{
     Body, Naming, Pushes, Registry, RowJob, RowMerged, RowUninstalled, RowValue, TableRef, Tables,
@@ -15,40 +17,46 @@ use crate::{
 use std::alloc::Allocator;
 use std::marker::Model;
 use std::sync::Wait;
-use tf_btree::Tree;
 use tf_records::Refusal;
-use tf_table::{Key, seal};
+use tf_table::{Key, MutableTable};
 
-/// A row: its mutable table, which is the newest, in front of its sealed tables.
+/// A row: its mutable table, of either kind, which is the newest, in front of its sealed tables.
 #[derive(Drop)]
-pub struct WholeRow<'r, V: RowValue, A: Allocator, N: Naming> {
-    fresh: Tree<Key, Option<V>, A>,
+pub struct WholeRow<'r, V: RowValue, M: MutableTable<V, A>, A: Allocator + Clone, N: Naming> {
+    fresh: M,
     tables: Tables<'r, V, A, N>,
 }
 
-impl<'r, V: RowValue, A: Allocator, N: Naming> Model for WholeRow<'r, V, A, N> {
+impl<'r, V: RowValue, M: MutableTable<V, A>, A: Allocator + Clone, N: Naming> Model
+    for WholeRow<'r, V, M, A, N> {
     ghost use Rattle.tf_manifest.specs.Whole.{Whole};
 
     ghost Value = { Whole V };
 
-    ghost view = { λ w. record { fresh = w.fresh; tables = w.tables } };
+    ghost view = { λ w. record { fresh = M.rows w.fresh; tables = w.tables } };
 }
 
-impl<'r, V: RowValue, A: Allocator + Clone, N: Naming> WholeRow<'r, V, A, N> {
+impl<'r, V: RowValue, M: MutableTable<V, A>, A: Allocator + Clone, N: Naming> WholeRow<
+    'r,
+    V,
+    M,
+    A,
+    N,
+> {
     /// A row with no rows and no tables, whose mutable table grows on `alloc`. It takes no memory.
-    pub fn new(alloc: A, registry: &'r Registry<V, A>) -> WholeRow<'r, V, A, N>
+    pub fn new(alloc: A, registry: &'r Registry<V, A>) -> WholeRow<'r, V, M, A, N>
         ensures { result ≡ record { fresh = []; tables = [] } }
     {
         WholeRow {
-            fresh: Tree::new_in(alloc),
+            fresh: M::new_in(alloc),
             tables: Tables::new(registry),
         }
     }
 
     /// The mutable table.
     #[inline]
-    pub fn fresh(&self) -> &Tree<Key, Option<V>, A>
-        ensures { result.now ≡ self.now.fresh }
+    pub fn fresh(&self) -> &M
+        ensures { M.rows result.now ≡ self.now.fresh }
     {
         &self.fresh
     }
@@ -66,8 +74,8 @@ impl<'r, V: RowValue, A: Allocator + Clone, N: Naming> WholeRow<'r, V, A, N> {
     pub fn find(&self, key: &Key) -> Option<&V>
         ensures { option_copied result ≡ row_at key.now self.now }
     {
-        match self.fresh.get(key) {
-            Some(entry) => entry.as_ref(),
+        match self.fresh.find(key) {
+            Some(entry) => entry,
             None => self.tables.find(key),
         }
     }
@@ -77,18 +85,11 @@ impl<'r, V: RowValue, A: Allocator + Clone, N: Naming> WholeRow<'r, V, A, N> {
     /// After the `put` it leaves the row as it was before.
     pub fn take_back(&mut self, key: &Key, before: Option<Option<V>>)
         requires { IsSome (entry_at key.now self.old.fresh) }
+        ensures row { self.new ≡ with_back key.now before self.old }
         ensures enters { Enters key.now before self.old self.new }
         ensures restores { (earlier : Whole V) (entry : Option V) → Enters key.now (Some entry) earlier self.old → before ≡ entry_at key.now earlier.fresh → IsRestored earlier self.new }
     {
-        match before {
-            None => {
-                let _ = self.fresh.remove(key);
-            }
-            Some(entry) => match self.fresh.insert(*key, entry) {
-                Ok(_) => {}
-                Err(_) => unreachable!(),
-            },
-        }
+        self.fresh.take_back(key, before);
     }
 
     /// Counts a sealed copy of the mutable table as the newest table, and clears the mutable one. It takes no memory.
@@ -124,26 +125,30 @@ impl<'r, V: RowValue, A: Allocator + Clone, N: Naming> WholeRow<'r, V, A, N> {
     ///
     /// The only refusal is `NoMemory`, and it changes nothing. Where the key has an entry there it takes no memory.
     pub fn put(&mut self, key: Key, entry: Option<V>) -> Result<Option<Option<V>>, Refusal>
+        requires { M.takes key self.old.fresh }
+        ensures row { OnOk result (self.new ≡ with_entry key entry self.old) }
         ensures enters { OnOk result (Enters key (Some entry) self.old self.new) }
         ensures puts { OnOk result (Puts key entry self.old self.new) }
         ensures before { IfOk result (λ before. before ≡ entry_at key self.old.fresh) }
         ensures err { OnErr result (self.new ≡ self.old) }
         ensures refusal { IfErr result (λ refusal. refusal ≡ Refusal.NoMemory) }
+        // No key comes twice.
+        ensures rising { IsRising key_cmp self.old.fresh }
     {
-        let Ok(before) = self.fresh.insert(key, entry) else {
-            return Err(Refusal::NoMemory);
-        };
-        Ok(before)
+        // Only the length call tells that the keys rise.
+        let _rows = self.fresh.len();
+        self.fresh.put(key, entry)
     }
 
     /// The mutable table as a sealed one, to be pushed: of level 0, and the oldest where there is no sealed table.
     ///
-    /// It goes over the mutable table once. The only refusal is `NoMemory`.
-    pub fn seal(&self, alloc: A) -> Result<Body<V, A>, Refusal>
-        ensures sealed { IfOk result (λ body. body ≡ sealed_of self.now) }
+    /// It goes over the mutable table once, and leaves the row as it is. The only refusal is `NoMemory`.
+    pub fn seal(&mut self, alloc: A) -> Result<Body<V, A>, Refusal>
+        ensures sealed { IfOk result (λ body. body ≡ sealed_of self.old) }
+        ensures same { self.new ≡ self.old }
         ensures err { IfErr result (λ refusal. refusal ≡ Refusal.NoMemory) }
     {
-        let table = seal(alloc, &self.fresh)?;
+        let table = self.fresh.seal(alloc)?;
         Ok(Body::new(table, 0, self.tables.is_empty()))
     }
 

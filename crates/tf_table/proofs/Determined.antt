@@ -2,6 +2,7 @@
 use Rattle.std.proofs.Common.{◌≡◌, List, [], ◌∷◌, ◌++◌, Option, Some, None, Bool, true, false, cond, refl, sym, ◌∙◌, ap, subst}
 use Rattle.std.specs.Cmp.{IsTotalOrder}
 use Rattle.std.specs.List.{filter}
+use Rattle.std.specs.Option.{option_flatten}
 use Rattle.std.specs.Ordering.{is_lt, is_eq, is_gt}
 use Rattle.std.specs.declared.cmp.Ordering.{Ordering}
 use Rattle.std.specs.declared.cmp.Ordering.TheVariants.{Less, Equal, Greater}
@@ -194,3 +195,37 @@ module _ {K V : Type 0} (cmp : K → K → Ordering) (o : IsTotalOrder cmp) (exa
   is_content lists out rising h =
       rows_ext cmp o exact out (rows_with (values_of (combined cmp lists))) rising (IsRising-values (combined cmp lists) (IsRising-combined cmp o exact lists))
       (λ k. h k ∙ sym (value_at-values k (combined cmp lists) (IsRising-combined cmp o exact lists) ∙ ap value_only (value_at-combined cmp o exact k lists)))
+
+  -- pairs and the rows that they are
+  AllAfter-pairs : (k : K) (pairs : List (K × V)) → AllAfter cmp k (rows_with pairs) → AllAfter cmp k pairs
+  AllAfter-pairs k [] a = tt
+  AllAfter-pairs k ((j, v) ∷ pairs) a = (a.0, AllAfter-pairs k pairs a.1)
+
+  IsRising-pairs : (pairs : List (K × V)) → IsRising cmp (rows_with pairs) → IsRising cmp pairs
+  IsRising-pairs [] rising = tt
+  IsRising-pairs ((j, v) ∷ pairs) rising = (AllAfter-pairs j pairs rising.0, IsRising-pairs pairs rising.1)
+
+  pair_cases : (q j : K) (v : V) (pairs : List (K × V)) (t : Bool) → is_eq (cmp j q) ≡ t → option_flatten (value_at cmp q (rows_with pairs)) ≡ value_at cmp q pairs
+      → option_flatten (value_at cmp q ((j, Some v) ∷ rows_with pairs)) ≡ value_at cmp q ((j, v) ∷ pairs)
+  pair_cases q j v pairs true e ih = ap option_flatten (value_at-here cmp o q (j, Some v) (rows_with pairs) e) ∙ sym (value_at-here cmp o q (j, v) pairs e)
+  pair_cases q j v pairs false e ih = ap option_flatten (value_at-there cmp o q (j, Some v) (rows_with pairs) e) ∙ ih ∙ sym (value_at-there cmp o q (j, v) pairs e)
+
+  value_at-pairs : (q : K) (pairs : List (K × V)) → option_flatten (value_at cmp q (rows_with pairs)) ≡ value_at cmp q pairs
+  value_at-pairs q [] = refl
+  value_at-pairs q ((j, v) ∷ pairs) = pair_cases q j v pairs (is_eq (cmp j q)) refl (value_at-pairs q pairs)
+
+  flatten-value_only : (entry : Option (Option V)) → option_flatten (value_only entry) ≡ option_flatten entry
+  flatten-value_only None = refl
+  flatten-value_only (Some None) = refl
+  flatten-value_only (Some (Some v)) = refl
+
+  -- what tables say together, as pairs
+  pub content_rises : (lists : List (List (K × Option V))) → IsRising cmp (values_of (combined cmp lists))
+  content_rises lists = IsRising-pairs (values_of (combined cmp lists)) (IsRising-values (combined cmp lists) (IsRising-combined cmp o exact lists))
+
+  pub content_has : (lists : List (List (K × Option V))) (q : K) → value_at cmp q (values_of (combined cmp lists)) ≡ option_flatten (first_at cmp q lists)
+  content_has lists q =
+      sym (value_at-pairs q (values_of (combined cmp lists)))
+      ∙ ap option_flatten (value_at-values q (combined cmp lists) (IsRising-combined cmp o exact lists))
+      ∙ flatten-value_only (value_at cmp q (combined cmp lists))
+      ∙ ap option_flatten (value_at-combined cmp o exact q lists)

@@ -1,19 +1,34 @@
 -- What a search in the keys of a table says of its rows.
-use Rattle.std.proofs.Common.{◌≡◌, ℕ, ◌+◌, ◌-◌, ◌<◌, ◌≤◌, List, length, take, drop, get_or, Option, Some, None, true, false, arith, ap, sym, ◌∙◌, subst}
+use Rattle.std.proofs.Common.{◌≡◌, ℕ, ◌+◌, ◌-◌, ◌<◌, ◌≤◌, List, [], ◌∷◌, length, take, drop, get_or, Option, Some, None, true, false, refl, arith, ap, sym, ◌∙◌, subst}
+use Rattle.std.specs.List.{zip}
 use Rattle.std.specs.Ordering.{is_lt, is_eq, is_gt}
-use Rattle.tf_btree.specs.Rows.{rows_from, rows_upto}
+use Rattle.tf_btree.specs.Rows.{rows_from, rows_upto, value_at}
 use Rattle.std.proofs.lemmas.List.{get_or_default}
+use Rattle.std.proofs.lemmas.List.Elements.{All-head, All-tail}
 use Rattle.tf_table.specs.declared.key.Key.{Key}
 use Rattle.tf_table.specs.declared.entries.Entries.{Entries}
 use Rattle.tf_table.specs.declared.span.Span.{Span}
 use Rattle.tf_table.specs.Entries.{entries_of}
+use Rattle.tf_table.specs.Filter.{Holds, HoldsEach}
 use Rattle.tf_table.specs.Key.{key_cmp}
 use Rattle.tf_table.specs.Rows.{rows_of, IsLaidOut}
 use Rattle.tf_table.specs.Content.{entry_at}
-use Rattle.tf_table.proofs.Keys.{keys_total}
+use Rattle.tf_table.proofs.Keys.{keys_total, exact_keys}
 use Rattle.tf_table.proofs.LaidOut.{length-rows_of, row_there, key_there}
-use Rattle.tf_table.proofs.Rising.{AllBefore}
+use Rattle.tf_table.proofs.Rising.{AllBefore, is_eq-not, value_at-there}
 use Rattle.tf_table.proofs.Places.{before_all, value_at-place, value_at-missing, value_at-end, value_at-under, value_at-over, rows_from-place, rows_upto-place}
+
+-- no row has a value that the filter doesn't hold
+entry_at-zip : {E : Type 0} (words : List ℕ) (key : Key) (ks : List Key) (es : List E) → HoldsEach words ks → (Holds words key.value → ⊥) → value_at key_cmp key (zip ks es) ≡ None
+entry_at-zip words key [] es h n = refl
+entry_at-zip words key (k ∷ ks) [] h n = refl
+entry_at-zip words key (k ∷ ks) (e ∷ es) h n =
+    value_at-there key_cmp keys_total key (k, e) (zip ks es)
+    (is_eq-not (key_cmp k key) (λ same. n (subst (λ (x : Key). Holds words x.value) (exact_keys k key same) (All-head (λ (x : Key). Holds words x.value) k ks h))))
+    ∙ entry_at-zip words key ks es (All-tail (λ (x : Key). Holds words x.value) k ks h) n
+
+pub entry_at-unheld : {V A : Type 0} (words : List ℕ) (key : Key) (ks : List Key) (es : Entries V A) → HoldsEach words ks → (Holds words key.value → ⊥) → entry_at key (rows_of ks es) ≡ None
+entry_at-unheld words key ks es h n = entry_at-zip words key ks (entries_of (length ks) es) h n
 
 module _ {V A : Type 0} {span : Option Span} (least greatest : Key) (ks : List Key) (es : Entries V A) (laid : IsLaidOut least greatest span ks es) where
   pub length-laid : length (rows_of ks es) ≡ length ks

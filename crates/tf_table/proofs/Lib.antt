@@ -1,5 +1,6 @@
 pub mod Combine
 pub mod Determined
+pub mod Filters
 pub mod Found
 pub mod Keys
 pub mod LaidOut
@@ -10,6 +11,7 @@ pub mod Places
 pub mod Rising
 pub mod Sorting
 pub mod Spans
+pub mod Stored
 pub mod Times
 pub mod Walks
 pub mod Within

@@ -1,5 +1,5 @@
 -- What a merge owes, once no row is left.
-use Rattle.std.proofs.Common.{◌≡◌, ◌+◌, ℕ, List, [], ◌∷◌, length, Option, Some, None, Bool, refl, ap, sym, ◌∙◌, arith}
+use Rattle.std.proofs.Common.{◌≡◌, ◌+◌, ℕ, List, [], ◌∷◌, length, Option, Some, None, Result, Ok, Err, IfOk, Bool, refl, ap, sym, ◌∙◌, subst, arith}
 use Rattle.std.specs.List.{sum_by}
 use Rattle.std.proofs.lemmas.List.Sums.{sum_by-cons}
 use denote.Ref.{Bor}
@@ -27,6 +27,12 @@ merges bottom lists places out c e = record {
   entries = merge_all key_cmp keys_total exact_keys bottom lists places out c e;
   within = omega (arith, c.fits, rows_left-sum lists);
 }
+
+-- the same of the table that the rows were sealed into, if they were
+pub merges_sealed : {V X : Type 0} (bottom : Bool) (lists : List (List (Key × Option V))) (places : List ℕ) (out : List (Key × Option V)) (sealed : Result (List (Key × Option V)) X)
+    → IfOk sealed (λ rows. rows ≡ out) → Combines key_cmp keys_total exact_keys bottom lists (left_of lists places) out → least_at key_cmp lists places ≡ None → IfOk sealed (λ rows. IsMerged bottom lists rows)
+merges_sealed bottom lists places out (Ok rows) same c e = subst (IsMerged bottom lists) (sym same) (merges bottom lists places out c e)
+merges_sealed bottom lists places out (Err x) same c e = tt
 
 -- what is no Some
 pub none_from_not : {X : Type 0} (o : Option X) → ((x : X) → o ≡ Some x → ⊥) → o ≡ None

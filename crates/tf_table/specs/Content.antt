@@ -1,5 +1,6 @@
 -- What lists of rows say of a key, newest first. A row is a key with a value, or with None, a tombstone.
-use Rattle.std.specs.Prelude.{List, [], ◌∷◌, Option, Some, None, Bool, true, false}
+use Rattle.std.specs.Prelude.{◌≡◌, List, [], ◌∷◌, Option, Some, None, Bool, true, false}
+use Rattle.std.specs.List.{All}
 use Rattle.std.specs.declared.cmp.Ordering.{Ordering}
 use Rattle.tf_btree.specs.Rows.{value_at, with_row}
 use Rattle.tf_table.specs.declared.key.Key.{Key}
@@ -31,6 +32,10 @@ abbrev pub values_of : {K V : Type 0} → List (K × Option V) → List (K × V)
 values_of [] = []
 values_of ((key, Some v) ∷ rows) = (key, v) ∷ values_of rows
 values_of ((key, None) ∷ rows) = values_of rows
+
+-- each of the rows is a tombstone
+abbrev pub AreTombstones : {K V : Type 0} → List (K × Option V) → Type 0
+AreTombstones rows = All (λ row. row.1 ≡ None) rows
 
 -- pairs as rows
 abbrev pub rows_with : {K V : Type 0} → List (K × V) → List (K × Option V)

@@ -1,5 +1,6 @@
 -- What the entries of a table's rows are, in either form.
-use Rattle.std.specs.Prelude.{ℕ, ◌<◌, ◌≤◌, List, Option, length, replicate, vec_capacity}
+use Rattle.std.specs.Prelude.{◌≡◌, ℕ, ◌<◌, List, Option, None, length, replicate, vec_capacity}
+use Rattle.std.specs.List.{All}
 use Rattle.tf_table.specs.declared.entries.Entries.{Entries}
 use Rattle.tf_table.specs.declared.entries.Entries.TheVariants.{Same, Each}
 
@@ -13,7 +14,11 @@ abbrev pub HasEntry : {V A : Type 0} → ℕ → Entries V A → Type 0
 HasEntry place (Same entry) = Unit {0}
 HasEntry place (Each entries) = place < length entries.items
 
--- a run of entries has room for so many
-abbrev pub HasRoomFor : {V A : Type 0} → ℕ → Entries V A → Type 0
-HasRoomFor room (Same entry) = Unit {0}
-HasRoomFor room (Each entries) = room ≤ vec_capacity entries
+-- none of the entries is a value
+abbrev pub HaveNoValue : {V : Type 0} → List (Option V) → Type 0
+HaveNoValue entries = All (λ entry. entry ≡ None) entries
+
+-- a run of entries has room for just so many, and isn't one of tombstones alone
+abbrev pub IsStored : {V A : Type 0} → ℕ → Entries V A → Type 0
+IsStored room (Same entry) = Unit {0}
+IsStored room (Each entries) = (vec_capacity entries ≡ room) × (HaveNoValue entries.items → ⊥)

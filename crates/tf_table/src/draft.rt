@@ -3,9 +3,11 @@ ghost use Rattle.std.specs.Prelude.{◌≡◌, ◌+◌, ◌<◌, ◌≤◌, [], 
 ghost use Rattle.tf_btree.specs.Rows.{IsRising};
 ghost use Rattle.tf_table.specs.Key.{key_cmp};
 ghost use Rattle.tf_table.specs.Content.{kept_row};
-ghost use Rattle.tf_table.specs.Rows.{rows_of, IsPaired, IsRoomy};
+ghost use Rattle.tf_table.specs.Rows.{rows_of, IsPaired, IsFitted};
 
 use crate::entries::Entries;
+use crate::filter::Filter;
+use crate::fitted::fitted;
 use crate::front::Front;
 use crate::span::span_of;
 use crate::{Key, Repeats, Sealed};
@@ -25,7 +27,7 @@ impl<V: Repeats, A: Allocator + Clone> Draft<V, A> {
         ensures none { IfOk result (λ d. rows_of d.keys.items d.entries ≡ []) }
         ensures paired { IfOk result (λ d. IsPaired d.keys.items d.entries) }
         ensures room { IfOk result (λ d. d.room ≡ room) }
-        ensures roomy { IfOk result (λ d. IsRoomy d.room (vec_capacity d.keys) d.entries) }
+        ensures fitted { IfOk result (λ d. IsFitted d.room (vec_capacity d.keys) d.entries) }
     {
         let keys = Vec::with_capacity(alloc, room)?;
         Ok(Draft {
@@ -39,11 +41,11 @@ impl<V: Repeats, A: Allocator + Clone> Draft<V, A> {
     #[inline]
     pub(crate) fn add(&mut self, key: &Key, entry: &Option<V>) -> Result<(), AllocError>
         requires paired { IsPaired self.old.keys.items self.old.entries }
-        requires roomy { IsRoomy self.old.room (vec_capacity self.old.keys) self.old.entries }
+        requires fitted { IsFitted self.old.room (vec_capacity self.old.keys) self.old.entries }
         requires fits { length (rows_of self.old.keys.items self.old.entries) < self.old.room }
         ensures rows { OnOk result (rows_of self.new.keys.items self.new.entries ≡ rows_of self.old.keys.items self.old.entries ++ (key.now, entry.now) ∷ []) }
         ensures paired { OnOk result (IsPaired self.new.keys.items self.new.entries) }
-        ensures roomy { OnOk result (IsRoomy self.new.room (vec_capacity self.new.keys) self.new.entries) }
+        ensures fitted { OnOk result (IsFitted self.new.room (vec_capacity self.new.keys) self.new.entries) }
         ensures room { self.new.room ≡ self.old.room }
     {
         let rows = self.keys.len();
@@ -58,11 +60,11 @@ impl<V: Repeats, A: Allocator + Clone> Draft<V, A> {
     #[inline]
     pub(crate) fn keep(&mut self, row: &Front<'_, V, A>, bottom: bool) -> Result<(), AllocError>
         requires paired { IsPaired self.old.keys.items self.old.entries }
-        requires roomy { IsRoomy self.old.room (vec_capacity self.old.keys) self.old.entries }
+        requires fitted { IsFitted self.old.room (vec_capacity self.old.keys) self.old.entries }
         requires fits { length (rows_of self.old.keys.items self.old.entries) < self.old.room }
         ensures rows { OnOk result (rows_of self.new.keys.items self.new.entries ≡ rows_of self.old.keys.items self.old.entries ++ kept_row bottom row.now) }
         ensures paired { OnOk result (IsPaired self.new.keys.items self.new.entries) }
-        ensures roomy { OnOk result (IsRoomy self.new.room (vec_capacity self.new.keys) self.new.entries) }
+        ensures fitted { OnOk result (IsFitted self.new.room (vec_capacity self.new.keys) self.new.entries) }
         ensures room { self.new.room ≡ self.old.room }
     {
         let entry = row.entry();
@@ -72,29 +74,33 @@ impl<V: Repeats, A: Allocator + Clone> Draft<V, A> {
         self.add(row.key(), entry)
     }
 
-    /// The table of the rows. Room that they don't take is given back.
-    pub(crate) fn seal(mut self) -> Sealed<V, A>
+    /// The table of the rows. Room that they don't take is given back. The memory of its filter comes from `alloc`.
+    pub(crate) fn seal(self, alloc: A) -> Result<Sealed<V, A>, AllocError>
         requires paired { IsPaired self.keys.items self.entries }
         requires rising { IsRising key_cmp (rows_of self.keys.items self.entries) }
-        ensures { result ≡ rows_of self.keys.items self.entries }
+        requires fitted { IsFitted self.room (vec_capacity self.keys) self.entries }
+        ensures { IfOk result (λ sealed. sealed ≡ rows_of self.keys.items self.entries) }
     {
-        self.keys.shrink_to_fit();
-        self.entries.shrink();
-        let least = match self.keys.first() {
+        let keys = fitted(self.keys)?;
+        let entries = self.entries.fitted()?;
+        let least = match keys.first() {
             Some(key) => *key,
             None => Key::LEAST,
         };
-        let greatest = match self.keys.last() {
+        let greatest = match keys.last() {
             Some(key) => *key,
             None => Key::LEAST,
         };
-        let span = span_of(&self.keys);
-        Sealed {
+        let span = span_of(&keys);
+        // Keys of one value would share their bits.
+        let filter = Filter::of(alloc, &keys, V::FILTERED && least.value < greatest.value)?;
+        Ok(Sealed {
             least,
             greatest,
             span,
-            keys: self.keys,
-            entries: self.entries,
-        }
+            filter,
+            keys,
+            entries,
+        })
     }
 }

@@ -1,8 +1,9 @@
 //! The entries of a table's rows, apart from their keys.
-ghost use Rattle.std.specs.Prelude.{◌≡◌, ◌↔◌, ℕ, ◌+◌, ◌<◌, ◌≤◌, [], ◌∷◌, ◌++◌, length, replicate, Option, IsTrue, IfOk, OnOk, slice_index_or, vec_capacity};
+ghost use Rattle.std.specs.Prelude.{◌≡◌, ◌↔◌, ℕ, ◌+◌, ◌<◌, [], ◌∷◌, ◌++◌, length, replicate, Option, None, true, IsTrue, IfOk, OnOk, slice_index_or, vec_capacity};
 ghost use Rattle.std.specs.Option.{option_copied};
-ghost use Rattle.tf_table.specs.Entries.{entries_of, HasEntry, HasRoomFor};
+ghost use Rattle.tf_table.specs.Entries.{entries_of, HasEntry, IsStored};
 
+use crate::fitted::fitted;
 use std::alloc::{AllocError, Allocator};
 
 /// Values that can tell whether one repeats another.
@@ -10,6 +11,10 @@ use std::alloc::{AllocError, Allocator};
 /// A table whose entries all repeat the first one stores it once. A type for which the test is slow may always answer
 /// false.
 pub trait Repeats: Copy {
+    /// Whether a table of such values has a filter of its keys' values, some ten bits for each. It pays for rows that
+    /// are looked up by keys that most tables don't have.
+    const FILTERED: bool = false;
+
     /// Whether the two are the same, where that is quick to tell.
     fn repeats(&self, other: &Self) -> bool
         ensures { IsTrue result → self.now ≡ other.now };
@@ -24,6 +29,8 @@ impl Repeats for () {
 }
 
 impl Repeats for u64 {
+    const FILTERED: bool = true;
+
     fn repeats(&self, other: &u64) -> bool
         ensures { IsTrue result ↔ (self.now ≡ other.now) }
     {
@@ -61,18 +68,20 @@ impl<V, A: Allocator> Entries<V, A> {
             Entries::Each(entries) => &entries[place],
         }
     }
-
-    /// Gives back the room that no entry takes.
-    pub(crate) fn shrink(&mut self)
-        ensures { (rows : ℕ) → entries_of rows self.new ≡ entries_of rows self.old }
-    {
-        if let Entries::Each(entries) = self {
-            entries.shrink_to_fit();
-        }
-    }
 }
 
 impl<V: Repeats, A: Allocator + Clone> Entries<V, A> {
+    /// The same, with no more room than they need.
+    pub(crate) fn fitted(self) -> Result<Self, AllocError>
+        ensures entries { IfOk result (λ fitted. (rows : ℕ) → entries_of rows fitted ≡ entries_of rows self) }
+        ensures stored { IfOk result (λ fitted. (room rows : ℕ) → IsStored room self → length (entries_of rows self) ≡ rows → IsStored rows fitted) }
+    {
+        match self {
+            Entries::Same(entry) => Ok(Entries::Same(entry)),
+            Entries::Each(entries) => Ok(Entries::Each(fitted(entries)?)),
+        }
+    }
+
     /// Puts an entry behind those of `rows` rows. If it is the first one that differs, it takes room for `room` entries.
     #[inline]
     pub(crate) fn add(
@@ -84,9 +93,9 @@ impl<V: Repeats, A: Allocator + Clone> Entries<V, A> {
     ) -> Result<(), AllocError>
         requires paired { length (entries_of rows self.old) ≡ rows }
         requires fits { rows < room }
-        requires roomy { HasRoomFor room self.old }
+        requires stored { IsStored room self.old }
         ensures rows { OnOk result (entries_of (rows + 1) self.new ≡ entries_of rows self.old ++ entry.now ∷ []) }
-        ensures roomy { OnOk result (HasRoomFor room self.new) }
+        ensures stored { OnOk result (IsStored room self.new) }
     {
         match self {
             Entries::Each(entries) => entries.push_reserved(*entry),
@@ -102,10 +111,11 @@ impl<V: Repeats, A: Allocator + Clone> Entries<V, A> {
     }
 }
 
-/// Whether the two entries are the same, where that is quick to tell.
+/// Whether the two entries are the same, where that is quick to tell. Tombstones are.
 #[inline]
 fn is_repeated<V: Repeats>(entry: &Option<V>, other: &Option<V>) -> bool
-    ensures { IsTrue result → entry.now ≡ other.now }
+    ensures same { IsTrue result → entry.now ≡ other.now }
+    ensures tombstones { entry.now ≡ None → other.now ≡ None → result ≡ true }
 {
     match (entry, other) {
         (None, None) => true,
@@ -124,13 +134,14 @@ fn spread<V: Copy, A: Allocator>(
     room: usize,
     last: &Option<V>,
 ) -> Result<Vec<Option<V>, A>, AllocError>
+    requires { rows < room }
     ensures items { IfOk result (λ entries. entries.items ≡ replicate rows same.now ++ last.now ∷ []) }
-    ensures room { IfOk result (λ entries. room ≤ vec_capacity entries) }
+    ensures room { IfOk result (λ entries. vec_capacity entries ≡ room) }
 {
     let mut entries = Vec::with_capacity(alloc, room)?;
     for _row in 0..rows {
-        entries.push(*same)?;
+        entries.push_reserved(*same);
     }
-    entries.push(*last)?;
+    entries.push_reserved(*last);
     Ok(entries)
 }

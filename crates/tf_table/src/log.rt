@@ -184,9 +184,9 @@ fn sealed_run<V: Repeats, A: Allocator + Clone>(
     requires { IsRising key_cmp rows.now }
     ensures { IfOk result (λ sealed. sealed ≡ rows.now) }
 {
-    let mut draft = Draft::with_room(alloc, rows.len())?;
+    let mut draft = Draft::with_room(alloc.clone()?, rows.len())?;
     for row in rows {
         draft.add(&row.0, &row.1)?;
     }
-    Ok(draft.seal())
+    draft.seal(alloc)
 }

@@ -24,7 +24,7 @@ const FEW_TABLES: usize = 8;
 /// It goes over the tables once, side by side, and copies each row that it keeps once. Of two tables it makes one
 /// comparison for each row, of more it looks at the next key of each of them; no other entry is read than that of the
 /// row. The keys have their room from the start, for all rows of the tables; so do the entries, from the first one on
-/// that differs from the others. What was too much is given back.
+/// that differs from the others. What was too much is given back, which takes memory for the rows of the merge again.
 pub fn merge<V: Repeats, A: Allocator + Clone>(
     alloc: A,
     tables: &[&Sealed<V, A>],
@@ -68,7 +68,7 @@ fn merged_all<V: Repeats, A: Allocator + Clone>(
         draft.keep(&row, bottom)?;
         pass(tables, places.as_mut_slice(), row.key());
     }
-    Ok(draft.seal())
+    draft.seal(alloc.clone()?)
 }
 
 /// How many rows the tables have together.

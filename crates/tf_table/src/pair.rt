@@ -28,7 +28,7 @@ pub(crate) fn merged_pair<V: Repeats, A: Allocator + Clone>(
     ensures { IfOk result (λ merged. IsMerged bottom (newer.now ∷ older.now ∷ []) merged) }
 {
     let room = newer.len().checked_add(older.len()).ok_or(AllocError)?;
-    let mut draft = Draft::with_room(alloc, room)?;
+    let mut draft = Draft::with_room(alloc.clone()?, room)?;
     let mut newer_place = 0;
     let mut older_place = 0;
     while let Some(step) = next_step(newer, newer_place, older, older_place) {
@@ -36,7 +36,7 @@ pub(crate) fn merged_pair<V: Repeats, A: Allocator + Clone>(
         newer_place = step.newer;
         older_place = step.older;
     }
-    Ok(draft.seal())
+    draft.seal(alloc)
 }
 
 /// The step from two places: the row with the lesser key, the newer one where the keys are the same.

@@ -3,11 +3,12 @@ ghost use Rattle.std.specs.Prelude.{◌≡◌, ◌+◌, ◌^◌, ◌<◌, ◌≤
 ghost use Rattle.std.specs.Option.{option_copied, option_map};
 ghost use Rattle.tf_btree.specs.Rows.{IsRising};
 ghost use Rattle.tf_table.specs.Key.{key_cmp};
-ghost use Rattle.tf_table.specs.Content.{entry_at};
+ghost use Rattle.tf_table.specs.Content.{entry_at, AreTombstones};
 ghost use Rattle.tf_table.specs.Merge.{seen};
 ghost use Rattle.tf_table.specs.Span.{HasSpan, timestamps};
 
 use crate::entries::Entries;
+use crate::filter::Filter;
 use crate::search::count_below_between;
 use crate::{Key, Span};
 use std::alloc::Allocator;
@@ -18,27 +19,29 @@ pub type Row<'a, V> = (&'a Key, Option<&'a V>);
 
 /// Rows that no longer change, in the order of their keys. Each is a value, or None for a tombstone.
 ///
-/// The keys lie in one run and the entries in another, and entries that all repeat the first are stored once.
+/// The keys lie in one run and the entries in another, and entries that all repeat the first are stored once. Where the
+/// values ask for it there is a filter too, of some ten bits a key, which tells of most absent keys that they are absent.
 #[derive(Drop)]
 pub struct Sealed<V, A: Allocator> {
     pub(crate) least: Key,
     pub(crate) greatest: Key,
     pub(crate) span: Option<Span>,
+    pub(crate) filter: Filter<A>,
     pub(crate) keys: Vec<Key, A>,
     pub(crate) entries: Entries<V, A>,
 }
 
 impl<V, A: Allocator> Model for Sealed<V, A> {
-    ghost use Rattle.std.specs.Prelude.{List, Option};
+    ghost use Rattle.std.specs.Prelude.{List, Option, vec_capacity};
     ghost use Rattle.tf_table.specs.declared.key.Key.{Key};
 
     ghost Value = { List (Key × Option V) };
 
-    ghost use Rattle.tf_table.specs.Rows.{rows_of, IsLaidOut};
+    ghost use Rattle.tf_table.specs.Rows.{rows_of, IsSealed};
 
     ghost view = { λ t. rows_of t.keys.items t.entries };
 
-    ghost invariant = { λ t. IsLaidOut t.least t.greatest t.span t.keys.items t.entries };
+    ghost invariant = { λ t. IsSealed t.least t.greatest t.span t.filter.words.items (vec_capacity t.keys) t.keys.items t.entries };
 }
 
 impl<V, A: Allocator> Sealed<V, A> {
@@ -59,6 +62,25 @@ impl<V, A: Allocator> Sealed<V, A> {
         self.keys.is_empty()
     }
 
+    /// For how many rows there is room: for those that there are.
+    pub fn capacity(&self) -> usize
+        ensures { result ≡ length self.now }
+    {
+        self.keys.capacity()
+    }
+
+    /// For how many entries there is room: for one if they all repeat the first, as tombstones do, else for one of each
+    /// row.
+    pub fn entry_capacity(&self) -> usize
+        ensures within { result ≤ length self.now }
+        ensures tombstones { AreTombstones self.now → result ≤ 1 }
+    {
+        match &self.entries {
+            Entries::Same(_) => self.len().min(1),
+            Entries::Each(entries) => entries.capacity(),
+        }
+    }
+
     /// The earliest and the latest timestamp of the rows, tombstones included, or None where there is no row.
     #[inline]
     pub fn span(&self) -> Option<Span>
@@ -71,11 +93,15 @@ impl<V, A: Allocator> Sealed<V, A> {
     ///
     /// It takes two comparisons for a key that no row can have, by the least and the greatest key of the table, and
     /// else a number that grows with the logarithm of the rows. Of rows without a value, one before which no timestamp is
-    /// missing takes five. No entry is read until the key is found.
+    /// missing takes five. Where there is a filter, it tells most keys between the two that the table doesn't have by one
+    /// word. No entry is read until the key is found.
     pub fn find(&self, key: &Key) -> Option<Option<&V>>
         ensures { option_map option_copied result ≡ entry_at key.now self.now }
     {
         if key.cmp(&self.least).is_lt() || self.greatest.cmp(key).is_lt() {
+            return None;
+        }
+        if !self.filter.may_hold(key.value) {
             return None;
         }
         let place = count_below_between(&self.keys, key, &self.least, &self.greatest);

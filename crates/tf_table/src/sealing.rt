@@ -9,9 +9,9 @@ use tf_records::Refusal;
 
 /// The rows of a tree as a table. An empty tree gives an empty table.
 ///
-/// It goes over the tree once and copies each row once, and then over the keys alone, for their span. The keys have
-/// their room from the start; so do the entries, from the first one on that differs from the others. The only refusal
-/// is `NoMemory`.
+/// It goes over the tree once and copies each row once, and then over the keys alone, for their span and their filter.
+/// The keys have their room from the start; so do the entries, from the first one on that differs from the others. The
+/// only refusal is `NoMemory`.
 pub fn seal<V: Repeats, A: Allocator + Clone>(
     alloc: A,
     tree: &Tree<Key, Option<V>, A>,
@@ -28,9 +28,9 @@ fn sealed_rows<V: Repeats, A: Allocator + Clone>(
 ) -> Result<Sealed<V, A>, AllocError>
     ensures { IfOk result (λ sealed. sealed ≡ tree.now) }
 {
-    let mut draft = Draft::with_room(alloc, tree.len())?;
+    let mut draft = Draft::with_room(alloc.clone()?, tree.len())?;
     for (key, entry) in tree.seek(&Key::LEAST) {
         draft.add(key, entry)?;
     }
-    Ok(draft.seal())
+    draft.seal(alloc)
 }

@@ -1,7 +1,7 @@
 //! Requests for memory that are refused.
 ghost use Rattle.std.specs.Prelude.{◌≡◌};
 
-use super::{assert_content, grow, key};
+use super::{TreeRow, assert_content, grow, key};
 use crate::{Naming, Pushes, Registry, RowUninstalled, WholeRow};
 use linked_list_allocator::LocalHeap;
 use std::marker::Brand;
@@ -31,7 +31,7 @@ fn many_tables<'r, 'h, N: Naming>(
     store: &'h LocalHeap,
     shelf: &'h LocalHeap,
     registry: &'r Registry<u64, &'h LocalHeap>,
-) -> Result<(WholeRow<'r, u64, &'h LocalHeap, N>, Vec<u8, &'h LocalHeap>), Fail>
+) -> Result<(TreeRow<'r, &'h LocalHeap, N>, Vec<u8, &'h LocalHeap>), Fail>
     requires here { registry.now ≡ N.shelf 0 }
 {
     let mut row = WholeRow::new(store, registry);
@@ -56,7 +56,7 @@ fn refused_then_granted<'h, N: Naming>(
 ) -> Result<(), Fail>
     requires here { registry.now ≡ N.shelf 0 }
 {
-    let mut empty: WholeRow<'_, u64, &LocalHeap, N> = WholeRow::new(none, registry);
+    let mut empty: TreeRow<'_, &LocalHeap, N> = WholeRow::new(none, registry);
     assert_eq!(rt; empty.put(key(1), Some(1)).err(), Some(Refusal::NoMemory));
     assert!(rt; empty.fresh().is_empty());
     let (mut row, taken) = many_tables::<N>(rt, store, shelf, registry)?;

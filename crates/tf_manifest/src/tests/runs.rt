@@ -1,7 +1,7 @@
 //! Runs of two tables: picked, merged, installed, replaced.
 ghost use Rattle.std.specs.Prelude.{◌≡◌, ◌≤◌};
 
-use super::{assert_content, five_tables, grow, key};
+use super::{TreeRow, assert_content, five_tables, grow, key};
 use crate::{Naming, Pushes, Registry, RowUninstalled, WholeRow};
 use std::alloc::Global;
 use std::marker::Brand;
@@ -53,7 +53,7 @@ fn full_row<N: Naming>(
 ) -> Result<(), Fail>
     requires here { registry.now ≡ N.shelf 0 }
 {
-    let mut row: WholeRow<'_, u64, Global, N> = WholeRow::new(alloc, registry);
+    let mut row: TreeRow<'_, Global, N> = WholeRow::new(alloc, registry);
     for value in 0..64u64 {
         grow(rt, alloc, registry, &mut row, value)?;
     }
@@ -99,7 +99,7 @@ fn entries_and_copies<N: Naming>(
 {
     let mut row = five_tables::<Global, N, _>(rt, &alloc, registry)?;
     let kept = row.tables().again();
-    let mut copy = WholeRow::<u64, Global, N>::new(alloc, registry)
+    let mut copy = TreeRow::<'_, Global, N>::new(alloc, registry)
         .tables()
         .again();
     assert!(rt; copy.is_empty());

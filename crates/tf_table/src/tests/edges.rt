@@ -1,6 +1,7 @@
 //! Tables at the edges: one entry that differs, tombstones alone, the least and the greatest key.
 
 use super::{key, rows_of, tree_of};
+use crate::filter::Filter;
 use crate::{Key, Sealed, merge, seal};
 use std::alloc::Global;
 use std::test::Fail;
@@ -51,6 +52,36 @@ fn tables_of_tombstones_alone(rt: HostRuntime) -> Result<(), Fail> {
     );
     assert!(rt; merge(rt.alloc(), &[&newest, &older], true)?.is_empty());
     assert!(rt; merge(rt.alloc(), &[&newest], true)?.is_empty());
+    Ok(())
+}
+
+#[test]
+fn a_table_has_room_for_its_rows_alone(rt: HostRuntime) -> Result<(), Fail> {
+    let newest = table_of(&rt, &[(2, None), (4, Some(7))])?;
+    let older = table_of(&rt, &[(1, None), (2, None)])?;
+    assert_eq!(rt; (newest.capacity(), newest.entry_capacity()), (2, 2));
+    assert_eq!(rt; (older.capacity(), older.entry_capacity()), (2, 1));
+    let merged = merge(rt.alloc(), &[&newest, &older], false)?;
+    assert_eq!(rt; (merged.capacity(), merged.entry_capacity()), (3, 3));
+    let none = merge(rt.alloc(), &[&older, &older], true)?;
+    assert_eq!(rt; (none.capacity(), none.entry_capacity()), (0, 0));
+    Ok(())
+}
+
+#[test]
+fn a_filter_knows_most_values_that_no_key_has(rt: HostRuntime) -> Result<(), Fail> {
+    let mut keys = Vec::new(rt.alloc());
+    for value in 0..600u64 {
+        keys.push(key(u128::from(value) << 64))?;
+    }
+    let filter = Filter::of(rt.alloc(), &keys, true)?;
+    let mut taken = 0u32;
+    for value in 600..1200u64 {
+        if filter.may_hold(u128::from(value) << 64) {
+            taken = taken.saturating_add(1);
+        }
+    }
+    assert!(rt; taken < 30, "{taken} of 600");
     Ok(())
 }
 

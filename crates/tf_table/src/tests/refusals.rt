@@ -140,12 +140,12 @@ fn room_of_merge(
 
 #[test]
 fn each_refused_request_of_a_seal_leaves_the_tree_as_it_was(rt: HostRuntime) -> Result<(), Fail> {
-    // A key takes 32 bytes, an entry 16.
+    // A key takes 32 bytes, an entry 16, and the filter of so few keys a block of 16.
     let alike = [(5, Some(1)), (7, Some(1)), (9, Some(1))];
     let unlike = [(5, None), (7, Some(10)), (9, Some(11))];
     assert_eq!(rt; room_of_seal(&rt, &[])?, 0);
-    assert_eq!(rt; room_of_seal(&rt, &alike)?, 3 * 32);
-    assert_eq!(rt; room_of_seal(&rt, &unlike)?, 3 * (32 + 16));
+    assert_eq!(rt; room_of_seal(&rt, &alike)?, 3 * 32 + 16);
+    assert_eq!(rt; room_of_seal(&rt, &unlike)?, 3 * (32 + 16) + 16);
     Ok(())
 }
 
@@ -156,9 +156,10 @@ fn each_refused_request_of_a_merge_leaves_the_tables_as_they_were(
     let newest = [(5, None), (7, Some(10))];
     let older = [(5, Some(20)), (6, Some(30))];
     let two = [(5, None), (6, Some(30)), (7, Some(10))];
+    // While the room of one key is given back, the three keys stand twice.
     assert_eq!(rt;
         room_of_merge(&rt, &[&newest, &older], &two)?,
-        4 * (32 + 16)
+        4 * (32 + 16) + 3 * 32
     );
     // Places for more than eight tables take memory too.
     let all = room_of_merge(

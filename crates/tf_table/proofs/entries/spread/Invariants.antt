@@ -1,8 +1,8 @@
-use Rattle.std.proofs.Common.{◌≡◌, ◌≤◌, replicate, vec_capacity}
+use Rattle.std.proofs.Common.{◌≡◌, replicate, vec_capacity}
 use Rattle.tf_table.proofs.entries.spread.Given as goal
 
 abbrev pub invariant-loop-row : goal.invariant-loop-row
 invariant-loop-row g l = record {
   items : l.entries.items ≡ replicate l._row l.same;
-  room : l.room ≤ vec_capacity l.entries;
+  room : vec_capacity l.entries ≡ l.room;
 }

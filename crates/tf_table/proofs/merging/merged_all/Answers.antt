@@ -9,7 +9,7 @@ use Rattle.tf_table.specs.Rows.{rows_of}
 use Rattle.tf_table.proofs.Keys.{keys_total, exact_keys}
 use Rattle.tf_table.proofs.Least.{left_of, rows_left}
 use Rattle.tf_table.proofs.Combine.{Combines, left_of-start, combines_start, merge_step, merge_fewer, merge_fits}
-use Rattle.tf_table.proofs.Merged.{merges, rows_left-tables, none_from_not}
+use Rattle.tf_table.proofs.Merged.{merges_sealed, rows_left-tables, none_from_not}
 use Rattle.tf_table.proofs.Walks.{lists_of, length-lists_of, length-passed_tables}
 use Rattle.tf_table.proofs.merging.merged_all.Goals as goal
 
@@ -20,7 +20,7 @@ loop-row-init g c =
     let zeros : c.in_ok-places.places.items ≡ replicate n 0 = c.in_ok-places.ensures.items_if_clones_equal (λ y h. h) in
     record {
       paired = c.in_ok-draft.ensures.paired;
-      roomy = c.in_ok-draft.ensures.roomy;
+      fitted = c.in_ok-draft.ensures.fitted;
       room = c.in_ok-draft.ensures.room ∙ c.in_ok-room.ensures.rows;
       places = c.in_ok-places.ensures.len;
       combines = combines_start key_cmp keys_total exact_keys c.args.bottom lists (left_of lists c.in_ok-places.places.items) (rows_of c.in_ok-draft.draft.keys.items c.in_ok-draft.draft.entries)
@@ -57,7 +57,7 @@ loop-row-preserved g c =
     subst (λ (rows : List (Key × Option g.row.V.Denot)). Combines key_cmp keys_total exact_keys c.args.bottom lists (left_of lists (passed key_cmp r.0 lists old)) rows) (sym c.in_ok-keep.ensures.rows) more in
     record {
       paired = c.in_ok-keep.ensures.paired;
-      roomy = c.in_ok-keep.ensures.roomy;
+      fitted = c.in_ok-keep.ensures.fitted;
       room = c.keep.ensures.room ∙ c.loop-row.invariant.room;
       places = ap length next ∙ len;
       combines = subst (λ (ps : List ℕ). Combines key_cmp keys_total exact_keys c.args.bottom lists (left_of lists ps) (rows_of c.keep.new.self.keys.items c.keep.new.self.entries)) (sym next) kept;
@@ -80,4 +80,4 @@ returns g c =
     let lists = lists_of c.args.tables.now in
     let old = c.loop-row.places.items in
     let e : least_at key_cmp lists old ≡ None = ap (least_at key_cmp lists) (sym c.as_slice.ensures) ∙ sym c.least.ensures ∙ none_from_not c.least.result c.in_default.not-Some in
-    merges c.args.bottom lists old c.seal.result (subst (Combines key_cmp keys_total exact_keys c.args.bottom lists (left_of lists old)) (sym c.seal.ensures) c.loop-row.invariant.combines) e
+    merges_sealed c.args.bottom lists old (rows_of c.loop-row.draft.keys.items c.loop-row.draft.entries) c.seal.result c.seal.ensures c.loop-row.invariant.combines e

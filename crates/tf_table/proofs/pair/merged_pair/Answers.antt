@@ -8,7 +8,7 @@ use Rattle.tf_table.specs.Rows.{rows_of}
 use Rattle.tf_table.proofs.Keys.{keys_total, exact_keys}
 use Rattle.tf_table.proofs.Least.{left_of, rows_left}
 use Rattle.tf_table.proofs.Combine.{Combines, merge_step, merge_fewer}
-use Rattle.tf_table.proofs.Merged.{merges, none_from_not}
+use Rattle.tf_table.proofs.Merged.{merges_sealed, none_from_not}
 use Rattle.tf_table.proofs.pair.merged_pair.Goals as goal
 
 pub loop-step-smaller : goal.loop-step-smaller
@@ -31,7 +31,7 @@ loop-step-preserved g c =
     (merge_step key_cmp keys_total exact_keys c.args.bottom lists places out r c.loop-step.invariant.combines e) in
     record {
       paired = c.in_ok-keep.ensures.paired;
-      roomy = c.in_ok-keep.ensures.roomy;
+      fitted = c.in_ok-keep.ensures.fitted;
       room = c.keep.ensures.room ∙ c.loop-step.invariant.room;
       combines = subst (λ (rows : List (Key × Option g.row.V.Denot)). Combines key_cmp keys_total exact_keys c.args.bottom lists (left_of lists (c.in-Some.step.newer ∷ c.in-Some.step.older ∷ [])) rows) (sym c.in_ok-keep.ensures.rows) more;
     }
@@ -41,4 +41,4 @@ returns g c =
     let lists = c.args.newer.now ∷ c.args.older.now ∷ [] in
     let places = c.loop-step.newer_place ∷ c.loop-step.older_place ∷ [] in
     let e : least_at key_cmp lists places ≡ None = sym c.next_step.ensures.row ∙ ap (option_map (λ step. step.row)) (none_from_not c.next_step.result c.in_default.not-Some) in
-    merges c.args.bottom lists places c.seal.result (subst (Combines key_cmp keys_total exact_keys c.args.bottom lists (left_of lists places)) (sym c.seal.ensures) c.loop-step.invariant.combines) e
+    merges_sealed c.args.bottom lists places (rows_of c.loop-step.draft.keys.items c.loop-step.draft.entries) c.seal.result c.seal.ensures c.loop-step.invariant.combines e

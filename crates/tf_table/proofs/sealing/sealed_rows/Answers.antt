@@ -15,7 +15,7 @@ loop-key-init g c =
       paired = c.in_ok-draft.ensures.paired;
       rows = ap (λ (none : List (Key × Option g.row.V.Denot)). none ++ rows) c.in_ok-draft.ensures.none ∙ start;
       room = c.in_ok-draft.ensures.room ∙ c.len.ensures.value;
-      roomy = c.in_ok-draft.ensures.roomy;
+      fitted = c.in_ok-draft.ensures.fitted;
     }
 
 pub seal-requires-clause-rising : goal.seal-requires-clause-rising

@@ -12,7 +12,7 @@ pub push_reserved-requires : goal.push_reserved-requires
 push_reserved-requires g c =
     let rows = length-rows_of c.args.self.now.keys.items c.args.self.now.entries c.requires.paired in
     let len = c.args.self.now.keys.ok.0 in
-    omega (arith, c.requires.roomy.0, c.requires.fits)
+    omega (arith, c.requires.fitted.0, c.requires.fits)
 
 pub returns-clause-rows : goal.returns-clause-rows
 returns-clause-rows g c =

@@ -11,7 +11,7 @@ use Rattle.tf_table.proofs.sealed.Sealed.last_upto.Goals as goal
 pub part-requires-clause-within : goal.part-requires-clause-within
 part-requires-clause-within g c =
     let t = c.self.inside in
-    let rows = length-rows_of t.keys.items t.entries c.self.invariant.paired in
+    let rows = length-rows_of t.keys.items t.entries c.self.invariant.laid.paired in
     omega (arith, rows, ap length c.self.view_is, ap length c.deref.ensures.value, c.requires.within)
 
 pub returns-clause-rows : goal.returns-clause-rows
@@ -22,12 +22,12 @@ returns-clause-rows g c =
     let from = c.args.from in
     let to = c.args.to in
     let p = c.count_upto.result in
-    let rows = length-rows_of keys t.entries c.self.invariant.paired in
+    let rows = length-rows_of keys t.entries c.self.invariant.laid.paired in
     let seen = ap length c.self.view_is in
     let within : to ≤ length keys = omega (arith, rows, seen, c.requires.within) in
     let some : c.part.result.now ≡ span from to keys = c.part.ensures ∙ ap (λ (ks : List Key). span from to ks) c.deref.ensures.value in
     let n : length c.part.result.now ≡ to - from = ap length some ∙ length-span from to keys c.requires.ordered within in
     subst (λ (rs : List (Key × Option g.row.V.Denot)). span from (from + p) rs ≡ rows_upto key_cmp key (span from to rs)) c.self.view_is
-    (some_upto t.least t.greatest keys t.entries c.self.invariant from to c.requires.ordered within key p (omega (arith, n, c.count_upto.ensures.within))
+    (some_upto t.least t.greatest keys t.entries c.self.invariant.laid from to c.requires.ordered within key p (omega (arith, n, c.count_upto.ensures.within))
     (λ q d e. subst (λ ks. is_gt (key_cmp (get_or ks q d) key) ≡ false) some (c.count_upto.ensures.before q d e))
     (λ d h. subst (λ ks. is_gt (key_cmp (get_or ks p d) key) ≡ true) some (c.count_upto.ensures.after d (omega (arith, n)))))

@@ -4,6 +4,6 @@ use Rattle.tf_table.proofs.sealed.Sealed.len.Goals as goal
 
 pub returns-clause-value : goal.returns-clause-value
 returns-clause-value g c =
-    let rows = length-rows_of c.self.inside.keys.items c.self.inside.entries c.self.invariant.paired in
+    let rows = length-rows_of c.self.inside.keys.items c.self.inside.entries c.self.invariant.laid.paired in
     let seen = ap length c.self.view_is in
     omega (arith, rows, seen, c.len.ensures)

@@ -1,0 +1,16 @@
+use Rattle.std.proofs.Common.{length, rules, ap, sym, ◌∙◌, subst}
+use Rattle.tf_table.specs.Entries.{IsStored}
+use Rattle.tf_table.specs.Filter.{HoldsEach}
+use Rattle.tf_table.proofs.draft.Draft.seal.Goals as goal
+
+pub invariant_of-result : goal.invariant_of-result
+invariant_of-result g c =
+    let n = ap length c.in_ok-keys.ensures.items in
+    record {
+      laid = search rules;
+      fitted = (
+        c.in_ok-keys.ensures.room ∙ sym n,
+        subst (λ m. IsStored m c.in_ok-entries.entries) (sym n) (c.in_ok-entries.ensures.stored c.args.self.room (length c.args.self.keys.items) c.requires.fitted.1 c.requires.paired),
+      );
+      held = subst (HoldsEach c.in_ok-filter.filter.words.items) c.deref-4.ensures.value c.in_ok-filter.ensures;
+    }
