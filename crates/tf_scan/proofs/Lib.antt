@@ -5,3 +5,8 @@ pub mod Seeks
 pub mod Firsts
 pub mod Nodes
 pub mod Postings
+pub mod Entries
+pub mod Prefixes
+pub mod Walked
+pub mod Taking
+pub mod Across

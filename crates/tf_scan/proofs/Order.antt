@@ -25,6 +25,15 @@ pub before-total : (d : Direction) (t u : ℕ) → is_before d t u ≡ false →
 before-total Rising t u a b = let e = ltb-false t u a in let f = ltb-false u t b in omega arith
 before-total Falling t u a b = let e = ltb-false u t a in let f = ltb-false t u b in omega arith
 
+-- what comes before t comes before what doesn't
+pub before-past : (d : Direction) (u n t : ℕ) → is_before d u t ≡ true → is_before d n t ≡ false → is_before d u n ≡ true
+before-past Rising u n t a b = lt-ltb u n (let e = ltb-true u t a in let f = ltb-false n t b in omega arith)
+before-past Falling u n t a b = lt-ltb n u (let e = ltb-true t u a in let f = ltb-false t n b in omega arith)
+
+pub not-before-trans : (d : Direction) (t u v : ℕ) → is_before d t u ≡ false → is_before d u v ≡ false → is_before d t v ≡ false
+not-before-trans Rising t u v a b = le-ltb t v (let e = ltb-false t u a in let f = ltb-false u v b in omega arith)
+not-before-trans Falling t u v a b = le-ltb v t (let e = ltb-false u t a in let f = ltb-false v u b in omega arith)
+
 pub behind-trans : (d : Direction) (t u : ℕ) (us : List ℕ) → is_before d t u ≡ true → AllBehind d u us → AllBehind d t us
 behind-trans d t u [] a h = tt
 behind-trans d t u (v ∷ vs) a h = (before-trans d t u v a h.0, behind-trans d t u vs a h.1)

@@ -4,3 +4,5 @@ pub mod Sequence
 pub mod Part
 pub mod Node
 pub mod Falls
+pub mod Prefix
+pub mod Place

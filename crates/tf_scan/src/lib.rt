@@ -6,7 +6,10 @@ mod head;
 mod leaf;
 mod node;
 mod operation;
+mod place;
+mod places;
 mod posting_list;
+mod prefix;
 mod scan;
 #[cfg(test)]
 mod tests;
@@ -14,4 +17,5 @@ mod tests;
 pub use direction::Direction;
 pub use leaf::Leaf;
 pub use posting_list::PostingList;
+pub use prefix::Prefix;
 pub use scan::Scan;

@@ -3,6 +3,7 @@
 ghost use Rattle.std.specs.Prelude.{◌≡◌, IfOk};
 
 mod joins;
+mod prefixes;
 mod reading;
 mod refusals;
 

@@ -1,21 +1,21 @@
 //! Unions and intersections beside the plain filter.
 
 use super::{Multiples, list_of, scan_of};
-use crate::{Direction, PostingList, Scan};
+use crate::{Direction, Leaf, Scan};
 use std::alloc::Allocator;
 use std::process::Abort;
 use std::test::Fail;
 
 /// How many timestamps a scan gives before it seeks, and where it seeks to.
 #[derive(Clone, Copy)]
-struct Seek {
-    after: u64,
-    to: u64,
+pub(super) struct Seek {
+    pub(super) after: u64,
+    pub(super) to: u64,
 }
 
 /// Which timestamps a join of two lists has.
 #[derive(Clone, Copy)]
-enum Joined {
+pub(super) enum Joined {
     Union,
     Intersection,
 }
@@ -31,9 +31,9 @@ impl Joined {
 }
 
 /// The scan gives what the plain filter does, where it seeks once.
-fn assert_gives<A: Allocator>(
+pub(super) fn assert_gives<P: Leaf, A: Allocator>(
     rt: &impl Abort,
-    scan: &mut Scan<PostingList<'_>, A>,
+    scan: &mut Scan<P, A>,
     joined: Joined,
     left: Multiples,
     right: Multiples,
@@ -107,7 +107,7 @@ fn assert_joins(
 }
 
 /// No seek before everything was given.
-const NEVER: Seek = Seek {
+pub(super) const NEVER: Seek = Seek {
     after: u64::MAX,
     to: 0,
 };

@@ -1,0 +1,136 @@
+-- What is left of each table in a prefix, and what holds of it.
+use Rattle.std.specs.Prelude.{◌≡◌, ℕ, suc, ◌<◌, ◌≤◌, Bool, false, not, ◌&&◌, if◌then◌else◌, nat_eq, nat_lt, List, [], ◌∷◌, ◌++◌, length, map, Option, Some, None}
+use Rattle.std.specs.List.{AllByRecursion}
+use Rattle.tf_btree.specs.Rows.{IsRising, rows_from, rows_upto}
+use Rattle.tf_table.specs.declared.key.Key.{Key}
+use Rattle.tf_table.specs.declared.span.Span.{Span}
+use Rattle.tf_table.specs.Key.{key_cmp}
+use Rattle.tf_table.specs.Content.{entry_at}
+use Rattle.tf_table.specs.Merge.{seen}
+use Rattle.tf_table.specs.Span.{timestamps}
+use Rattle.tf_manifest.specs.Rows.{key_of}
+use Rattle.tf_scan.specs.declared.direction.Direction.{Direction}
+use Rattle.tf_scan.specs.declared.direction.Direction.TheVariants.{Rising, Falling}
+use Rattle.tf_scan.specs.declared.place.Place.{Place}
+use Rattle.tf_scan.specs.declared.place.Place.TheVariants.{Closed, Open, End}
+use Rattle.tf_scan.specs.Order.{is_before, AllBehind}
+
+-- the rows of the value with timestamps in the span
+abbrev pub rows_within : {V : Type 0} → ℕ → Span → List (Key × Option V) → List (Key × Option V)
+rows_within value span rows = rows_upto key_cmp (key_of value span.latest) (rows_from key_cmp (key_of value span.earliest) rows)
+
+-- the rows that are still to come
+abbrev pub rows_left : {V A : Type 0} → ℕ → Place V A → List (Key × Option V)
+rows_left value (Closed table span) = rows_within value span table.now
+rows_left value (Open front) = seen front.row ∷ front.others
+rows_left value End = []
+
+-- those of each place
+abbrev pub lists_left : {V A : Type 0} → ℕ → List (Place V A) → List (List (Key × Option V))
+lists_left value places = map (rows_left value) places
+
+-- the timestamp of a span that comes first
+abbrev pub first_of : Direction → Span → ℕ
+first_of Rising span = span.earliest
+first_of Falling span = span.latest
+
+-- a timestamp before which no row comes, None at the end
+abbrev pub nearest_in : {V A : Type 0} → Direction → Place V A → Option ℕ
+nearest_in d (Closed table span) = Some (first_of d span)
+nearest_in d (Open front) = Some front.row.0.now.timestamp
+nearest_in d End = None
+
+-- of two timestamps the one that comes first
+abbrev pub nearer : Direction → Option ℕ → Option ℕ → Option ℕ
+nearer d None u = u
+nearer d (Some t) None = Some t
+nearer d (Some t) (Some u) = if is_before d u t then Some u else Some t
+
+-- the nearest timestamp of all places
+abbrev pub nearest_of : {V A : Type 0} → Direction → List (Place V A) → Option ℕ
+nearest_of d [] = None
+nearest_of d (p ∷ ps) = nearer d (nearest_in d p) (nearest_of d ps)
+
+-- the timestamp, if there is one, doesn't come before t
+abbrev pub IsFrom : Direction → ℕ → Option ℕ → Type 0
+IsFrom d t None = Unit {0}
+IsFrom d t (Some n) = is_before d n t ≡ false
+
+-- whether the timestamp lies in the span
+abbrev pub is_within : Option Span → ℕ → Bool
+is_within None t = false
+is_within (Some span) t = not (nat_lt t span.earliest) && not (nat_lt span.latest t)
+
+-- rows of the value, in key order
+pub record IsAt {E : Type 0} (value : ℕ) (rows : List (Key × E)) : Type 0 where
+  pub rising : IsRising key_cmp rows
+  pub values : AllByRecursion (λ (r : Key × E). r.0.value ≡ value) rows
+
+-- the row is one of the value and comes before the others
+pub record IsHead {E : Type 0} (d : Direction) (value : ℕ) (row : Key × E) (rows : List (Key × E)) : Type 0 where
+  pub here : row.0.value ≡ value
+  pub behind : AllBehind d row.0.timestamp (timestamps rows)
+  pub others : IsAt value rows
+
+-- what always holds of a place
+abbrev pub IsPlace : {V A : Type 0} → Direction → ℕ → Place V A → Type 0
+IsPlace d value (Closed table span) = IsRising key_cmp table.now
+IsPlace d value (Open front) = IsHead d value (seen front.row) front.others
+IsPlace d value End = Unit {0}
+
+-- the row was taken from the side of the rows that comes first
+abbrev pub IsTaken : {E : Type 0} → Direction → Key × E → List (Key × E) → List (Key × E) → Type 0
+IsTaken Rising row old new = old ≡ row ∷ new
+IsTaken Falling row old new = old ≡ new ++ row ∷ []
+
+-- the rows whose keys don't come before the key
+abbrev pub rows_behind : {E : Type 0} → Direction → Key → List (Key × E) → List (Key × E)
+rows_behind Rising key rows = rows_from key_cmp key rows
+rows_behind Falling key rows = rows_upto key_cmp key rows
+
+-- at the timestamps of the value that pass the test there are the old entries, and at the others none
+abbrev pub Keeps : {V : Type 0} → ℕ → (ℕ → Bool) → List (Key × Option V) → List (Key × Option V) → Type 0
+Keeps value stays old new = (t : ℕ) → entry_at (key_of value t) new ≡ (if stays t then entry_at (key_of value t) old else None)
+
+-- how many steps are left at most
+abbrev pub steps_left : {V A : Type 0} → ℕ → Place V A → ℕ
+steps_left value (Closed table span) = suc (length (rows_within value span table.now))
+steps_left value (Open front) = suc (length front.others)
+steps_left value End = 0
+
+-- the table was searched
+abbrev pub IsSearched : {V A : Type 0} → Place V A → Type 0
+IsSearched (Closed table span) = ⊥
+IsSearched (Open front) = Unit {0}
+IsSearched End = Unit {0}
+
+-- the place is right and has these rows
+pub record HasRows {V A : Type 0} (d : Direction) (value : ℕ) (rows : List (Key × Option V)) (place : Place V A) : Type 0 where
+  pub right : IsPlace d value place
+  pub same : (t : ℕ) → entry_at (key_of value t) (rows_left value place) ≡ entry_at (key_of value t) rows
+  pub steps : steps_left value place ≡ length rows
+  pub searched : IsSearched place
+
+-- the table was searched, where it wasn't yet
+abbrev pub Opens : {V A : Type 0} → Direction → ℕ → Place V A → Place V A → Type 0
+Opens d value (Closed table span) new = HasRows d value (rows_within value span table.now) new
+Opens d value (Open front) new = new ≡ Open front
+Opens d value End new = new ≡ End
+
+-- the next row was taken out, where the table was searched
+abbrev pub Advances : {V A : Type 0} → Direction → ℕ → Place V A → Place V A → Type 0
+Advances d value (Closed table span) new = new ≡ Closed table span
+Advances d value (Open front) new = HasRows d value front.others new
+Advances d value End new = new ≡ End
+
+-- the row at the timestamp was taken out, if it was there
+pub record Takes {V A : Type 0} (d : Direction) (value t : ℕ) (old new : Place V A) : Type 0 where
+  pub right : IsPlace d value new
+  pub others : Keeps value (λ u. not (nat_eq u t)) (rows_left value old) (rows_left value new)
+  pub steps : steps_left value new ≤ steps_left value old
+  pub fewer : nearest_in d old ≡ Some t → steps_left value new < steps_left value old
+
+-- the rows before the timestamp were taken out
+pub record Seeks {V A : Type 0} (d : Direction) (value t : ℕ) (old new : Place V A) : Type 0 where
+  pub right : IsPlace d value new
+  pub others : Keeps value (λ u. not (is_before d u t)) (rows_left value old) (rows_left value new)

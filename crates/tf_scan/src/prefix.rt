@@ -1,0 +1,91 @@
+//! Prefixes of a row.
+ghost use Rattle.std.specs.Prelude.{◌≡◌, ℕ, is_some};
+ghost use Rattle.tf_manifest.specs.Row.{content_at};
+ghost use Rattle.tf_manifest.specs.Rows.{key_of};
+ghost use Rattle.tf_scan.specs.Order.{IsInOrder};
+ghost use Rattle.tf_scan.specs.Sets.{is_among};
+
+use crate::place::Place;
+use crate::{Direction, Leaf, places};
+use arrayvec::ArrayVec;
+use std::alloc::Allocator;
+use std::marker::Model;
+use tf_manifest::{Naming, RowValue, Tables};
+
+/// The timestamps under one value in a row: those t for which the content of the row's sealed tables has something at
+/// the key of the value and t.
+///
+/// A contract sees it as its direction and the timestamps that are still to come. For each of the tables, at most 64, it
+/// has a place in itself, so it takes no memory and has some 3,600 bytes. A table is searched only once its span of
+/// timestamps begins at the nearest one: of tables that follow each other in time, a few timestamps search one or two.
+#[derive(Drop)]
+pub struct Prefix<'r, V, A: Allocator> {
+    direction: Direction,
+    value: u128,
+    pub(crate) places: ArrayVec<Place<'r, V, A>, 64>,
+}
+
+impl<'r, V, A: Allocator> Model for Prefix<'r, V, A> {
+    ghost use Rattle.std.specs.List.{AllByRecursion};
+    ghost use Rattle.tf_scan.specs.Sequence.{Sequence};
+
+    ghost Value = { Sequence };
+
+    ghost use Rattle.tf_scan.specs.Prefix.{prefix_of};
+    ghost use Rattle.tf_scan.specs.Place.{lists_left, IsPlace};
+
+    ghost view = { λ p. record { direction = p.direction; left = prefix_of p.direction p.value (lists_left p.value p.places.items) } };
+
+    ghost invariant = { λ p. AllByRecursion (IsPlace p.direction p.value) p.places.items };
+}
+
+impl<'r, V: RowValue, A: Allocator> Prefix<'r, V, A> {
+    /// The prefix of a value in the content of these tables. It takes no memory, and looks at the span of each table.
+    pub fn new<N: Naming>(
+        tables: &Tables<'r, V, A, N>,
+        value: u128,
+        direction: Direction,
+    ) -> Prefix<'r, V, A>
+        ensures direction { result.direction ≡ direction }
+        // What is left is the list in order of the timestamps at which the content has something.
+        ensures in_order { IsInOrder direction result.left }
+        ensures members { (t : ℕ) → is_among t result.left ≡ is_some (content_at (key_of value t) tables.now) }
+    {
+        let mut places = ArrayVec::new();
+        for reference in tables.references() {
+            places.push(Place::new(reference.table().table()));
+        }
+        Prefix {
+            direction,
+            value,
+            places,
+        }
+    }
+}
+
+impl<'r, V, A: Allocator> Leaf for Prefix<'r, V, A> {
+    ghost left = { λ p. p.left };
+
+    ghost direction = { λ p. p.direction };
+
+    fn direction(&self) -> Direction {
+        self.direction
+    }
+
+    /// It goes over the places once or twice for each timestamp that a table has. Of the tables it reads those alone
+    /// whose nearest timestamp this is.
+    fn next(&mut self) -> Option<u64> {
+        places::next(self.direction, self.value, self.places.as_mut_slice())
+    }
+
+    /// It goes over the places once. A table that wasn't searched yet isn't read, and in each other one the number of
+    /// keys that it looks at grows with the logarithm of the rows that it passes over.
+    fn seek(&mut self, timestamp: u64) {
+        places::seek(
+            self.direction,
+            self.value,
+            self.places.as_mut_slice(),
+            timestamp,
+        );
+    }
+}

@@ -1,0 +1,265 @@
+//! Prefixes of rows over several tables, beside the plain filter.
+ghost use Rattle.std.specs.Prelude.{◌≡◌, ◌+◌, ◌<◌, length, OnOk, IfOk};
+ghost use Rattle.tf_manifest.specs.Row.{weight};
+
+use super::Multiples;
+use super::joins::{Joined, NEVER, Seek, assert_gives};
+use crate::place::Place;
+use crate::{Direction, Leaf, Prefix, Scan};
+use linked_list_allocator::LocalHeap;
+use std::alloc::Global;
+use std::marker::Brand;
+use std::process::Abort;
+use std::sync::Wait;
+use std::test::Fail;
+use tf_manifest::{Body, Naming, Registry, Tables};
+use tf_records::Refusal;
+use tf_table::{Key, Log, MutableTable, Sealed};
+
+/// The tables of the row that has them all.
+const TABLES: u64 = 16;
+
+/// What the prefixes of the row have.
+const LISTS: [Multiples; 5] = [
+    Multiples { of: 2, count: 0 },
+    Multiples { of: 2, count: 1 },
+    Multiples {
+        of: 2,
+        count: 5_000,
+    },
+    Multiples { of: 3, count: 1 },
+    Multiples {
+        of: 3,
+        count: 5_000,
+    },
+];
+
+/// The value under which a list stands.
+fn value_of(list: Multiples) -> u128 {
+    u128::from(list.of.wrapping_mul(10_000).wrapping_add(list.count))
+}
+
+/// Puts a table in front of the others.
+fn add_table<'r, N: Naming, R: Wait>(
+    rt: &R,
+    registry: &'r Registry<(), Global>,
+    tables: &mut Tables<'r, (), Global, N>,
+    sealed: Sealed<(), Global>,
+) -> Result<(), Fail>
+    requires here { registry.now ≡ N.shelf 4 }
+    requires room { length tables.old < 64 }
+    requires light { weight tables.old < 1000 }
+    ensures weight { OnOk result (weight tables.new ≡ weight tables.old + 1) }
+    ensures length { OnOk result (length tables.new ≡ length tables.old + 1) }
+{
+    let body = Body::new(sealed, 0, tables.is_empty());
+    let Ok(table) = registry.push(rt, body) else {
+        return Err(Fail::new("no memory for a push"));
+    };
+    tables.add(table);
+    Ok(())
+}
+
+/// What table `t`, counted from the oldest, has of a list at a timestamp, if it has the key.
+///
+/// Each timestamp has its own table. What it says there covers what an older one says, of some timestamps: of those
+/// that are in the list a tombstone, and of those that aren't a value, under a tombstone.
+fn entry(t: u64, list: Multiples, timestamp: u64) -> Option<Option<()>> {
+    let own = timestamp % TABLES;
+    let has = list.has(timestamp);
+    let covers = own > 0 && timestamp % 7 == 0;
+    if t == own && (has || covers) {
+        Some(has.then_some(()))
+    } else if covers && t == own / 2 {
+        Some((!has).then_some(()))
+    } else {
+        None
+    }
+}
+
+/// Table `t` of the row.
+fn table(alloc: Global, t: u64) -> Result<Sealed<(), Global>, Fail> {
+    let mut rows: Log<(), Global> = Log::new_in(alloc);
+    for list in LISTS {
+        for timestamp in 0..list.end() {
+            let key = Key {
+                value: value_of(list),
+                timestamp,
+            };
+            if let Some(entry) = entry(t, list, timestamp)
+                && rows.find(&key).is_none()
+            {
+                let _ = rows.put(key, entry)?;
+            }
+        }
+    }
+    Ok(rows.seal(alloc)?)
+}
+
+/// The row.
+fn row<'r, N: Naming, R: Wait>(
+    rt: &R,
+    alloc: Global,
+    registry: &'r Registry<(), Global>,
+) -> Result<Tables<'r, (), Global, N>, Fail>
+    requires here { registry.now ≡ N.shelf 4 }
+{
+    let mut tables = Tables::new(registry);
+    for t in 0..TABLES {
+        add_table(rt, registry, &mut tables, table(alloc, t)?)?;
+    }
+    Ok(tables)
+}
+
+/// A join of two prefixes gives what the plain filter does.
+fn assert_join<N: Naming>(
+    rt: &(impl Abort + AllocGlobal),
+    tables: &Tables<'_, (), Global, N>,
+    joined: Joined,
+    lists: (Multiples, Multiples),
+    direction: Direction,
+    seek: Seek,
+) -> Result<(), Fail> {
+    let left = Scan::leaf(Prefix::new(tables, value_of(lists.0), direction));
+    let right = Scan::leaf(Prefix::new(tables, value_of(lists.1), direction));
+    let mut scan = match joined {
+        Joined::Union => Scan::union(rt.alloc(), left, right)?,
+        Joined::Intersection => Scan::intersection(rt.alloc(), left, right)?,
+    };
+    assert_gives(rt, &mut scan, joined, lists.0, lists.1, seek);
+    Ok(())
+}
+
+/// The same of both joins, in both directions.
+fn assert_joins<N: Naming>(
+    rt: &(impl Abort + AllocGlobal),
+    tables: &Tables<'_, (), Global, N>,
+    left: Multiples,
+    right: Multiples,
+    seek: Seek,
+) -> Result<(), Fail> {
+    for direction in [Direction::Rising, Direction::Falling] {
+        for joined in [Joined::Union, Joined::Intersection] {
+            assert_join(rt, tables, joined, (left, right), direction, seek)?;
+        }
+    }
+    Ok(())
+}
+
+fn joins_of_prefixes<N: Naming>(
+    rt: &(impl Abort + AllocGlobal + Wait),
+    registry: &Registry<(), Global>,
+) -> Result<(), Fail>
+    requires here { registry.now ≡ N.shelf 4 }
+{
+    let tables = row::<N, _>(rt, rt.alloc(), registry)?;
+    for left in LISTS {
+        for right in LISTS {
+            assert_joins(rt, &tables, left, right, NEVER)?;
+        }
+    }
+    for to in [0, 1, 6, 7, 5_000, 9_998, 9_999, 14_997, 14_998, u64::MAX] {
+        assert_joins(rt, &tables, LISTS[2], LISTS[4], Seek { after: 0, to })?;
+        assert_joins(rt, &tables, LISTS[2], LISTS[4], Seek { after: 100, to })?;
+        assert_joins(rt, &tables, LISTS[1], LISTS[3], Seek { after: 0, to })?;
+    }
+    Ok(())
+}
+
+#[test]
+fn joins_of_prefixes_are_the_plain_filter(rt: HostRuntime) -> Result<(), Fail> {
+    let registry = Registry::new(rt.alloc())?;
+    joins_of_prefixes::<Brand>(&rt, &registry)
+}
+
+/// Tables of a hundred timestamps each, that follow each other.
+fn tables_in_turn<'r, N: Naming, R: Wait>(
+    rt: &R,
+    alloc: Global,
+    registry: &'r Registry<(), Global>,
+) -> Result<Tables<'r, (), Global, N>, Fail>
+    requires here { registry.now ≡ N.shelf 4 }
+{
+    let mut tables = Tables::new(registry);
+    for t in 0..20u64 {
+        let mut rows: Log<(), Global> = Log::new_in(alloc);
+        for place in 0..100u64 {
+            let key = Key {
+                value: 1,
+                timestamp: 100 * t + place,
+            };
+            if rows.find(&key).is_none() {
+                let _ = rows.put(key, Some(()))?;
+            }
+        }
+        add_table(rt, registry, &mut tables, rows.seal(alloc)?)?;
+    }
+    Ok(tables)
+}
+
+fn few_timestamps<N: Naming>(
+    rt: &(impl Abort + AllocGlobal + Wait),
+    registry: &Registry<(), Global>,
+) -> Result<(), Fail>
+    requires here { registry.now ≡ N.shelf 4 }
+{
+    let tables = tables_in_turn::<N, _>(rt, rt.alloc(), registry)?;
+    for direction in [Direction::Rising, Direction::Falling] {
+        let mut prefix = Prefix::new(&tables, 1, direction);
+        prefix.seek(1_095);
+        for place in 0..10u64 {
+            let timestamp = match direction {
+                Direction::Rising => 1_095 + place,
+                Direction::Falling => 1_095 - place,
+            };
+            assert_eq!(rt; prefix.next(), Some(timestamp));
+        }
+        let mut searched = 0u64;
+        for place in prefix.places.as_slice() {
+            if matches!(place, Place::Open(_)) {
+                searched = searched.saturating_add(1);
+            }
+        }
+        assert!(rt; searched <= 2, "{searched} tables were searched");
+    }
+    Ok(())
+}
+
+#[test]
+fn few_timestamps_search_few_tables(rt: HostRuntime) -> Result<(), Fail> {
+    let registry = Registry::new(rt.alloc())?;
+    few_timestamps::<Brand>(&rt, &registry)
+}
+
+/// How many heaps, each greater than the one before, are too small for a join of two prefixes.
+fn count_refusals<N: Naming>(
+    rt: &(impl Abort + AllocGlobal + Wait),
+    registry: &Registry<(), Global>,
+) -> Result<usize, Fail>
+    requires here { registry.now ≡ N.shelf 4 }
+{
+    let tables = tables_in_turn::<N, _>(rt, rt.alloc(), registry)?;
+    for tries in 0..64usize {
+        let heap = LocalHeap::new(rt.alloc(), tries * 512)?;
+        let left = Scan::leaf(Prefix::new(&tables, 1, Direction::Rising));
+        let right = Scan::leaf(Prefix::new(&tables, 1, Direction::Rising));
+        match Scan::intersection(&heap, left, right) {
+            Err(refusal) => {
+                assert_eq!(rt; refusal, Refusal::NoMemory);
+                assert_eq!(rt; heap.used(), 0);
+            }
+            Ok(mut scan) => {
+                assert_eq!(rt; scan.next(), Some(0));
+                return Ok(tries);
+            }
+        }
+    }
+    Err(Fail::new("the join never succeeds"))
+}
+
+#[test]
+fn each_box_of_a_prefix_may_be_refused(rt: HostRuntime) -> Result<(), Fail> {
+    let registry = Registry::new(rt.alloc())?;
+    assert!(rt; count_refusals::<Brand>(&rt, &registry)? > 2);
+    Ok(())
+}
