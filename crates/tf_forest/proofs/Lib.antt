@@ -10,3 +10,6 @@ pub mod Entries
 pub mod Early
 pub mod GoingBack
 pub mod FoundInRows
+pub mod Parts
+pub mod Steps
+pub mod Next

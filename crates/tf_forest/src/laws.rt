@@ -6,8 +6,11 @@
 ghost use Rattle.std.specs.Prelude.{◌≡◌, ◌∷◌, ◌++◌, List, [], ℕ};
 ghost use Rattle.std.specs.List.{All};
 ghost use Rattle.tf_forest.specs.Back.{edits_back};
+ghost use Rattle.tf_forest.specs.Changes.{all_changed};
 ghost use Rattle.tf_forest.specs.Edits.{edited, edits, party_of};
 ghost use Rattle.tf_forest.specs.LookUps.{party_read, pending_read, shown_read, status_read, transfer_read, use_read};
+ghost use Rattle.tf_forest.specs.Next.{changes, content_in};
+ghost use Rattle.tf_forest.specs.Parts.{Parts};
 ghost use Rattle.tf_journal.specs.declared.entry.Entry.{Entry};
 ghost use Rattle.tf_journal.specs.Lawful.{IsSound};
 ghost use Rattle.tf_journal.specs.Ledger.{CanGrow};
@@ -51,4 +54,13 @@ pub fn rows_answer_look_ups()
 {
     // An id has the timestamp of its record, under which the record stands.
     rows_are_maps();
+}
+
+/// Rows that show a journal show it with its next entry after the changes of that entry, made one after another. So the
+/// steps that take them back give rows that show the journal again. Does nothing.
+pub fn rows_show_the_next_entry()
+    ensures { (rows : Parts) (journal : List Entry) (e : Entry) → IsSound journal → CanGrow journal e → Shows (content_in rows) journal → Shows (content_in (all_changed (changes journal e) rows)) (journal ++ e ∷ []) }
+{
+    rows_change_by_edits();
+    // The changes of an entry are its edits, row by row.
 }
