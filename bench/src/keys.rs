@@ -42,6 +42,14 @@ pub fn rising_key(place: u64) -> Key {
     }
 }
 
+/// The key of a number. Such keys rise with their numbers.
+pub fn spread_key(number: u64) -> Key {
+    Key {
+        value: u128::from(number) << 64,
+        timestamp: number,
+    }
+}
+
 /// A number that tells keys from one another.
 pub fn key_number(key: &Key) -> u64 {
     ((key.value >> 64) as u64).wrapping_mul(3) ^ key.timestamp

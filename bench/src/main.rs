@@ -2,6 +2,7 @@
 //! checksum and the nanoseconds that it took.
 
 mod keys;
+mod row;
 mod table;
 mod tree;
 
@@ -9,6 +10,7 @@ use keys::{Payload, Words};
 use std::env;
 use std::process::ExitCode;
 use std::time::Instant;
+use row::Wanted;
 use table::Keys;
 
 /// How often a workload does what it does, and the seed of its keys.
@@ -47,6 +49,17 @@ fn run<V: Payload>(workload: &str, run: Run) -> Option<Measured> {
         "table_find_miss_outside" => Some(table::find_miss_outside::<V>(run)),
         "table_seek_up" => Some(table::seek_up::<V>(run)),
         "table_seek_down" => Some(table::seek_down::<V>(run)),
+        "row_find_hit_1" => Some(row::find(run, 1, Wanted::Hit)),
+        "row_find_hit_8" => Some(row::find(run, 8, Wanted::Hit)),
+        "row_find_hit_20" => Some(row::find(run, 20, Wanted::Hit)),
+        "row_find_hit_64" => Some(row::find(run, 64, Wanted::Hit)),
+        "row_find_miss_inside_1" => Some(row::find(run, 1, Wanted::MissInside)),
+        "row_find_miss_inside_8" => Some(row::find(run, 8, Wanted::MissInside)),
+        "row_find_miss_inside_20" => Some(row::find(run, 20, Wanted::MissInside)),
+        "row_find_miss_inside_64" => Some(row::find(run, 64, Wanted::MissInside)),
+        "row_find_miss_outside_20" => Some(row::find(run, 20, Wanted::MissOutside)),
+        "row_copy" => Some(row::copy(run)),
+        "row_install" => Some(row::install(run)),
         _ => None,
     }
 }
@@ -72,6 +85,7 @@ fn answer() -> Option<Measured> {
     };
     match value_size.as_str() {
         "0" => run::<()>(workload, request),
+        "8" => run::<Words<1>>(workload, request),
         "16" => run::<Words<2>>(workload, request),
         "160" => run::<Words<20>>(workload, request),
         _ => None,

@@ -1,6 +1,6 @@
 //! Workloads over sorted vectors: the keys in one, their entries in another.
 
-use crate::keys::{key_number, mixed, Generator, Key, Payload};
+use crate::keys::{key_number, mixed, spread_key, Generator, Key, Payload};
 use crate::{measure, Measured, Run};
 use std::cmp::Ordering;
 use std::collections::BTreeMap;
@@ -151,14 +151,6 @@ fn merged_tables<V: Payload>(tables: &[&Table<V>], bottom: bool) -> Table<V> {
                 places[number] += 1;
             }
         }
-    }
-}
-
-/// The key of a number, by which keys rise.
-fn spread_key(number: u64) -> Key {
-    Key {
-        value: u128::from(number) << 64,
-        timestamp: number,
     }
 }
 

@@ -76,6 +76,17 @@ impl Payload for () {
     }
 }
 
+/// A value of 8 bytes, whose tables have a filter.
+impl Payload for u64 {
+    fn of(number: u64) -> Self {
+        number
+    }
+
+    fn number(&self) -> u64 {
+        *self
+    }
+}
+
 /// A value of 16 bytes.
 #[derive(Clone, Copy)]
 pub(crate) struct Small {

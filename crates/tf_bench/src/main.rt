@@ -5,12 +5,14 @@
 #![tactic(auto)]
 
 mod keys;
+mod row;
 mod table;
 mod tree;
 mod workload;
 
 use std::process::ExitCode;
 use std::rt::Env;
+use std::sync::Wait;
 use std::time::Clock;
 use std::{env, io};
 use workload::{Run, Workload, ask};
@@ -23,7 +25,7 @@ fn main(rt: HostRuntime) -> ExitCode {
 }
 
 /// Does what the arguments ask for.
-fn answer<R: Env + Print + Clock + AllocGlobal>(rt: &R) -> io::Result<()> {
+fn answer<R: Env + Print + Clock + AllocGlobal + Wait>(rt: &R) -> io::Result<()> {
     let mut args = env::args(rt)?;
     let _program = args.next();
     let Some(name) = args.next() else {

@@ -2,8 +2,9 @@
 
 use crate::keys::{Large, Payload, Small};
 use crate::table::{Keys, Wanted};
-use crate::{table, tree};
+use crate::{row, table, tree};
 use std::io;
+use std::sync::Wait;
 use std::time::Clock;
 
 /// How often a workload does what it does, and the seed of its keys.
@@ -44,11 +45,22 @@ pub(crate) enum Workload {
     TableFindMissOutside,
     TableSeekUp,
     TableSeekDown,
+    RowFindHit1,
+    RowFindHit8,
+    RowFindHit20,
+    RowFindHit64,
+    RowFindMissInside1,
+    RowFindMissInside8,
+    RowFindMissInside20,
+    RowFindMissInside64,
+    RowFindMissOutside20,
+    RowCopy,
+    RowInstall,
 }
 
 impl Workload {
     /// Every workload.
-    pub(crate) const ALL: [Workload; 21] = [
+    pub(crate) const ALL: [Workload; 32] = [
         Workload::TreeInsertRising,
         Workload::TreeInsertRandom,
         Workload::TreeRounds,
@@ -70,6 +82,17 @@ impl Workload {
         Workload::TableFindMissOutside,
         Workload::TableSeekUp,
         Workload::TableSeekDown,
+        Workload::RowFindHit1,
+        Workload::RowFindHit8,
+        Workload::RowFindHit20,
+        Workload::RowFindHit64,
+        Workload::RowFindMissInside1,
+        Workload::RowFindMissInside8,
+        Workload::RowFindMissInside20,
+        Workload::RowFindMissInside64,
+        Workload::RowFindMissOutside20,
+        Workload::RowCopy,
+        Workload::RowInstall,
     ];
 
     /// The name by which it is asked for.
@@ -96,6 +119,17 @@ impl Workload {
             Workload::TableFindMissOutside => "table_find_miss_outside",
             Workload::TableSeekUp => "table_seek_up",
             Workload::TableSeekDown => "table_seek_down",
+            Workload::RowFindHit1 => "row_find_hit_1",
+            Workload::RowFindHit8 => "row_find_hit_8",
+            Workload::RowFindHit20 => "row_find_hit_20",
+            Workload::RowFindHit64 => "row_find_hit_64",
+            Workload::RowFindMissInside1 => "row_find_miss_inside_1",
+            Workload::RowFindMissInside8 => "row_find_miss_inside_8",
+            Workload::RowFindMissInside20 => "row_find_miss_inside_20",
+            Workload::RowFindMissInside64 => "row_find_miss_inside_64",
+            Workload::RowFindMissOutside20 => "row_find_miss_outside_20",
+            Workload::RowCopy => "row_copy",
+            Workload::RowInstall => "row_install",
         }
     }
 
@@ -110,7 +144,7 @@ impl Workload {
     }
 
     /// Runs it over values of a size.
-    pub(crate) fn run<R: Clock + AllocGlobal>(
+    pub(crate) fn run<R: Clock + AllocGlobal + Wait>(
         self,
         rt: &R,
         run: Run,
@@ -118,12 +152,13 @@ impl Workload {
     ) -> io::Result<Measured> {
         match size {
             ValueSize::None => self.run_over::<(), R>(rt, run),
+            ValueSize::Filtered => self.run_over::<u64, R>(rt, run),
             ValueSize::Small => self.run_over::<Small, R>(rt, run),
             ValueSize::Large => self.run_over::<Large, R>(rt, run),
         }
     }
 
-    fn run_over<V: Payload, R: Clock + AllocGlobal>(
+    fn run_over<V: Payload, R: Clock + AllocGlobal + Wait>(
         self,
         rt: &R,
         run: Run,
@@ -180,6 +215,17 @@ impl Workload {
             Workload::TableFindMissOutside => table::find::<V, R>(rt, run, Wanted::MissOutside),
             Workload::TableSeekUp => table::seek_up::<V, R>(rt, run),
             Workload::TableSeekDown => table::seek_down::<V, R>(rt, run),
+            Workload::RowFindHit1 => row::find(rt, run, 1, row::Wanted::Hit),
+            Workload::RowFindHit8 => row::find(rt, run, 8, row::Wanted::Hit),
+            Workload::RowFindHit20 => row::find(rt, run, 20, row::Wanted::Hit),
+            Workload::RowFindHit64 => row::find(rt, run, 64, row::Wanted::Hit),
+            Workload::RowFindMissInside1 => row::find(rt, run, 1, row::Wanted::MissInside),
+            Workload::RowFindMissInside8 => row::find(rt, run, 8, row::Wanted::MissInside),
+            Workload::RowFindMissInside20 => row::find(rt, run, 20, row::Wanted::MissInside),
+            Workload::RowFindMissInside64 => row::find(rt, run, 64, row::Wanted::MissInside),
+            Workload::RowFindMissOutside20 => row::find(rt, run, 20, row::Wanted::MissOutside),
+            Workload::RowCopy => row::copy(rt, run),
+            Workload::RowInstall => row::install(rt, run),
         }
     }
 }
@@ -189,6 +235,8 @@ impl Workload {
 pub(crate) enum ValueSize {
     /// No bytes.
     None,
+    /// 8 bytes, of tables with a filter.
+    Filtered,
     /// 16 bytes.
     Small,
     /// 160 bytes.
@@ -200,6 +248,7 @@ impl ValueSize {
     fn of_bytes(bytes: &str) -> Option<ValueSize> {
         match bytes {
             "0" => Some(ValueSize::None),
+            "8" => Some(ValueSize::Filtered),
             "16" => Some(ValueSize::Small),
             "160" => Some(ValueSize::Large),
             _ => None,
