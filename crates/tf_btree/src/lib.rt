@@ -6,8 +6,6 @@ mod cursor;
 mod node;
 mod run;
 mod search;
-#[cfg(test)]
-mod tests;
 mod tree;
 
 pub use back_cursor::BackCursor;

@@ -1,13 +1,15 @@
 -- What is read of a manifest's row, by its kind.
-use Rattle.std.proofs.Common.{◌≡◌, ℕ, ◌<◌, List, [], length, Option, Some, None, IfSome, IfNone, IsSome, MatchOption, refl, sym, ◌∙◌, ap, subst}
+use Rattle.std.proofs.Common.{◌≡◌, ℕ, ◌<◌, List, [], length, Option, ◌∙◌, ap, subst}
 use Rattle.std.specs.Prelude.{slice_index_or}
-use Rattle.std.specs.Option.{option_map, IsSomeAnd}
+use Rattle.std.specs.Option.{option_map}
 use Rattle.tf_table.specs.declared.key.Key.{Key}
 use Rattle.tf_manifest.specs.declared.jobs.Job.{Job}
+use Rattle.tf_manifest.specs.declared.jobs.Job.TheVariants as job
 use Rattle.tf_manifest.specs.declared.kind.Kind.{Kind}
+use Rattle.tf_manifest.specs.declared.kind.Kind.TheVariants as kind
 use Rattle.tf_manifest.specs.declared.row.Row.{Row}
 use Rattle.tf_manifest.specs.declared.value.Value.{Value}
-use Rattle.tf_manifest.specs.Jobs.{IsPickedFrom, kind_of_job, run_of}
+use Rattle.tf_manifest.specs.Jobs.{IsPickedFrom}
 use Rattle.tf_manifest.specs.Kinds.{kind_of}
 use Rattle.tf_manifest.specs.Row.{content_at}
 use Rattle.tf_manifest.specs.Run.{Run, IsPicked, Stands, count_at}
@@ -32,49 +34,50 @@ counted inside view row k at result v e p r =
     ∙ ap (λ (w : View). length (tables_by w k)) v
     ∙ ap (λ (x : Kind). length (tables_by view x)) e
 
--- what a pick among the tables of one row says, as its contract does
-pub record RowPicks {V : Type 0} (tables : List (Shown V)) (result : Option (Run V)) : Type 0 where
-  pub some : IfSome result (λ run. IsPicked tables run)
-  pub stands : IfSome result (λ run. Stands tables run)
-  pub none : IfNone result ((level : ℕ) → count_at level tables < 4)
-  pub full : length tables ≡ 64 → IsSome result
+-- what holds of a row's tables, of the manifest's row
+of_row : (P : (V : Type 0) → List (Shown V) → Type 0) (inside view : View) (row : Row) (k : Kind) (at : ℕ) (tables : List (Shown (StoredBy k))) → inside ≡ view → k ≡ kind_of row → at ≡ place_by k → tables ≡ slice_index_or (rows_by inside k) at []
+    → P (StoredBy k) tables → P (StoredBy (kind_of row)) (tables_by view (kind_of row))
+of_row P inside view row k at tables v e p t h =
+    let there : tables ≡ tables_by view k = t ∙ ap (λ (i : ℕ). slice_index_or (rows_by inside k) i []) p ∙ ap (λ (w : View). tables_by w k) v in
+    subst (λ (x : Kind). P (StoredBy x) (tables_by view x)) e (subst (λ (ts : List (Shown (StoredBy k))). P (StoredBy k) ts) there h)
+
+-- no level of a row has four tables
+pub few : (inside view : View) (row : Row) (k : Kind) (at : ℕ) (tables : List (Shown (StoredBy k))) → inside ≡ view → k ≡ kind_of row → at ≡ place_by k → tables ≡ slice_index_or (rows_by inside k) at []
+    → ((level : ℕ) → count_at level tables < 4) → (level : ℕ) → count_at level (tables_by view (kind_of row)) < 4
+few inside view row k at tables v e p t h = of_row (λ V ts. (level : ℕ) → count_at level ts < 4) inside view row k at tables v e p t h
+
+-- what follows where a row is full
+pub full : (Q : Type 0) (inside view : View) (row : Row) (k : Kind) (at : ℕ) (tables : List (Shown (StoredBy k))) → inside ≡ view → k ≡ kind_of row → at ≡ place_by k → tables ≡ slice_index_or (rows_by inside k) at []
+    → (length tables ≡ 64 → Q) → references_in view row ≡ 64 → Q
+full Q inside view row k at tables v e p t h = of_row (λ V ts. length ts ≡ 64 → Q) inside view row k at tables v e p t h
 
 module _ {A N : Type 0} where
-  -- the job is of a row of the kind, and its run is that row's to merge next
-  pub record PickedAs (view : View) (k : Kind) (j : Job A N) : Type 0 where
-    pub from : kind_of_job j ≡ k
-    pub picked : IsPicked (tables_by view (kind_of_job j)) (run_of j)
-    pub stands : Stands (tables_by view (kind_of_job j)) (run_of j)
+  -- the job of a run, by the kind of its row
+  abbrev pub job_by : (k : Kind) → Run (StoredBy k) → Job A N
+  job_by (kind.Stamp row) run = job.Stamp row run
+  job_by kind.Account run = job.Account run
+  job_by kind.Transfer run = job.Transfer run
+  job_by kind.Id run = job.Id run
+  job_by (kind.Unit row) run = job.Unit row run
+  job_by kind.State run = job.State run
+  job_by kind.Sums run = job.Sums run
+  job_by kind.Status run = job.Status run
 
-  -- what a pick says
-  pub record Picks (view : View) (row : Row) (result : Option (Job A N)) : Type 0 where
-    pub some : IfSome result (IsPickedFrom view row)
-    pub none : IfNone result ((level : ℕ) → count_at level (tables_by view (kind_of row)) < 4)
-    pub full : references_in view row ≡ 64 → IsSome result
+  named : (view : View) (row : Row) (k : Kind) (run : Run (StoredBy k)) → k ≡ kind_of row → IsPicked (tables_by view k) run → Stands (tables_by view k) run → IsPickedFrom view row (job_by k run)
+  named view row (kind.Stamp place) run e picked stands = record { from = e; picked = picked; stands = stands }
+  named view row kind.Account run e picked stands = record { from = e; picked = picked; stands = stands }
+  named view row kind.Transfer run e picked stands = record { from = e; picked = picked; stands = stands }
+  named view row kind.Id run e picked stands = record { from = e; picked = picked; stands = stands }
+  named view row (kind.Unit place) run e picked stands = record { from = e; picked = picked; stands = stands }
+  named view row kind.State run e picked stands = record { from = e; picked = picked; stands = stands }
+  named view row kind.Sums run e picked stands = record { from = e; picked = picked; stands = stands }
+  named view row kind.Status run e picked stands = record { from = e; picked = picked; stands = stands }
 
-  of_row : (view : View) (row : Row) (k : Kind) (picked : Option (Run (StoredBy k))) (result : Option (Job A N)) (Post : Run (StoredBy k) → Job A N → Type 0)
-      → k ≡ kind_of row → RowPicks (tables_by view k) picked
-      → MatchOption picked (result ≡ None) (λ run. IsSomeAnd result (Post run))
-      → ((run : Run (StoredBy k)) (j : Job A N) → Post run j → IsPicked (tables_by view k) run → Stands (tables_by view k) run → PickedAs view k j)
-      → Picks view row result
-  of_row view row k (Some run) (Some j) Post e picks m post =
-      let p : PickedAs view k j = post run j m picks.some picks.stands in
-      record { some = record { from = p.from ∙ e; picked = p.picked; stands = p.stands }; none = tt; full = λ _. refl }
-  of_row view row k (Some run) None Post e picks m post = absurd m
-  of_row view row k None (Some j) Post e picks m post = let wrong : Some j ≡ None = m in absurd (cc)
-  of_row view row k None None Post e picks m post = record {
-    some = tt;
-    none = λ level. subst (λ (x : Kind). count_at level (tables_by view x) < 4) e (picks.none level);
-    full = λ h. picks.full (ap (λ (x : Kind). length (tables_by view x)) e ∙ h);
-  }
-
-  -- a pick among the tables of one row is one of the manifest
-  pub picks : (inside view : View) (row : Row) (k : Kind) (at : ℕ) (tables : List (Shown (StoredBy k))) (picked : Option (Run (StoredBy k))) (result : Option (Job A N)) (Post : Run (StoredBy k) → Job A N → Type 0)
-      → inside ≡ view → k ≡ kind_of row → at ≡ place_by k → tables ≡ slice_index_or (rows_by inside k) at []
-      → RowPicks tables picked
-      → MatchOption picked (result ≡ None) (λ run. IsSomeAnd result (Post run))
-      → ((run : Run (StoredBy k)) (j : Job A N) → Post run j → IsPicked (tables_by view k) run → Stands (tables_by view k) run → PickedAs view k j)
-      → Picks view row result
-  picks inside view row k at tables picked result Post v e p t h m post =
+  -- a run picked among the tables of one row is picked of the manifest's row
+  pub picked : (inside view : View) (row : Row) (k : Kind) (at : ℕ) (tables : List (Shown (StoredBy k))) (run : Run (StoredBy k)) → inside ≡ view → k ≡ kind_of row → at ≡ place_by k → tables ≡ slice_index_or (rows_by inside k) at []
+      → IsPicked tables run → Stands tables run → IsPickedFrom view row (job_by k run)
+  picked inside view row k at tables run v e p t chosen stands =
       let there : tables ≡ tables_by view k = t ∙ ap (λ (i : ℕ). slice_index_or (rows_by inside k) i []) p ∙ ap (λ (w : View). tables_by w k) v in
-      of_row view row k picked result Post e (subst (λ (ts : List (Shown (StoredBy k))). RowPicks ts picked) there h) m post
+      named view row k run e
+      (subst (λ (ts : List (Shown (StoredBy k))). IsPicked ts run) there chosen)
+      (subst (λ (ts : List (Shown (StoredBy k))). Stands ts run) there stands)

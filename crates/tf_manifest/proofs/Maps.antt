@@ -1,5 +1,6 @@
 -- What is read at a place through maps.
-use Rattle.std.proofs.Common.{◌≡◌, ℕ, zero, suc, ◌+◌, ◌<◌, ◌≤◌, List, [], ◌∷◌, ◌++◌, length, map, take, drop, get_or, Some, None, slice_get, slice_set, refl, sym, ◌∙◌, ap, arith}
+use Rattle.std.proofs.Common.{◌≡◌, ℕ, zero, suc, ◌+◌, ◌<◌, ◌≤◌, List, [], ◌∷◌, ◌++◌, length, map, take, drop, get_or, Some, None, Result, Ok, Err, OnErr, slice_get, slice_set, refl, sym, ◌∙◌, ap, arith}
+use Rattle.std.specs.Prelude.{slice_index_or}
 use Rattle.std.specs.List.{refill, remove}
 use Rattle.std.proofs.lemmas.List.{map-append}
 
@@ -62,3 +63,13 @@ pub length-slice_set : {X : Type 0} (xs : List X) (i : ℕ) (y : X) → length (
 length-slice_set [] i y = refl
 length-slice_set (x ∷ xs) zero y = refl
 length-slice_set (x ∷ xs) (suc i) y = ap suc (length-slice_set xs i y)
+
+-- an element read at a place and written there again
+pub set_back : {X : Type 0} (xs : List X) (i : ℕ) (x d : X) → x ≡ slice_index_or xs i d → slice_set xs i x ≡ xs
+set_back [] i x d e = refl
+set_back (y ∷ xs) zero x d e = ap (λ z. z ∷ xs) e
+set_back (y ∷ xs) (suc i) x d e = ap (λ zs. y ∷ zs) (set_back xs i x d e)
+
+pub on_err : {X E : Type 0} (r : Result X E) (P Q : Type 0) → (P → Q) → OnErr r P → OnErr r Q
+on_err (Ok x) P Q f h = tt
+on_err (Err e) P Q f h = f h

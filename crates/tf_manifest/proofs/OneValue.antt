@@ -1,7 +1,7 @@
 -- No row of a sound journal has two values at one key.
 use Rattle.std.proofs.Common.{◌≡◌, ◌≢◌, ℕ, ◌<◌, zero, suc, List, [], ◌∷◌, ◌++◌, length, map, Some, Bool, true, filter, ◌⊎◌, refl, sym, ◌∙◌, ap, subst, arith, inl, inr}
 use Rattle.std.specs.Prelude.{◌==◌}
-use Rattle.std.specs.List.{All, AllPairs, Contains, filter_map, flat_map, slice_index_or}
+use Rattle.std.specs.List.{AllPairs, Contains, filter_map, flat_map, slice_index_or}
 use Rattle.std.proofs.lemmas.Bool.{eq-eqb}
 use Rattle.std.proofs.lemmas.Option.{none-some, same_Some}
 use Rattle.tf_records.specs.declared.account.Account.{Account}

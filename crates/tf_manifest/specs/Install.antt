@@ -1,5 +1,5 @@
 -- What a refused install says.
-use Rattle.std.specs.Prelude.{Result, Ok, Err, ⊤}
+use Rattle.std.specs.Prelude.{◌≡◌, Result, Ok, Err, ⊤}
 use Rattle.tf_manifest.specs.declared.uninstalled.Uninstalled.{Uninstalled}
 use Rattle.tf_manifest.specs.declared.uninstalled.Uninstalled.TheVariants.{NoMemory, Stale, RegistryFull}
 
@@ -22,10 +22,10 @@ module _ {M : Type 0} where
   IfNoMemory Stale P = ⊤
   IfNoMemory RegistryFull P = ⊤
 
--- both answers say the same, and what is handed back is alike
-abbrev pub AnswersAlike : {M K : Type 0} → (M → K → Type 0) → Result (Unit {0}) (Uninstalled M) → Result (Unit {0}) (Uninstalled K) → Type 0
-AnswersAlike Alike (Ok done) (Ok told) = ⊤
-AnswersAlike Alike (Err (NoMemory m)) (Err (NoMemory k)) = Alike m k
-AnswersAlike Alike (Err Stale) (Err Stale) = ⊤
-AnswersAlike Alike (Err RegistryFull) (Err RegistryFull) = ⊤
-AnswersAlike Alike answer told = ⊥
+-- what an answer hands back, and else the same answer
+abbrev pub AreParts : {M K : Type 0} → Result (Unit {0}) (Uninstalled M) → Result (Result (Unit {0}) (Uninstalled K)) M → Type 0
+AreParts (Ok done) (Ok (Ok told)) = ⊤
+AreParts (Err (NoMemory m)) (Err back) = back ≡ m
+AreParts (Err Stale) (Ok (Err Stale)) = ⊤
+AreParts (Err RegistryFull) (Ok (Err RegistryFull)) = ⊤
+AreParts answer parts = ⊥

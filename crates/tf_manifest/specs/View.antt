@@ -1,5 +1,5 @@
 -- What contracts see of a manifest: the tables of the 21 rows, by the kinds of their values, and the tables pushed.
-use Rattle.std.specs.Prelude.{◌≡◌, ℕ, ◌≤◌, List, [], ◌∷◌, replicate, length, slice_index_or, Option}
+use Rattle.std.specs.Prelude.{ℕ, ◌≤◌, List, [], replicate, length, slice_index_or, Option}
 use Rattle.std.specs.List.{All}
 use Rattle.std.specs.Option.{option_map}
 use Rattle.tf_journal.specs.declared.entry.Entry.{Entry}

@@ -1,7 +1,7 @@
 //! Jobs of a manifest's rows: picked, and installed once merged.
 ghost use Rattle.std.specs.Prelude.{◌≡◌, ◌<◌, ℕ, OnOk, OnErr, IfErr, IfSome, IfNone, IsSome};
 ghost use Rattle.tf_manifest.specs.Jobs.{Answers, InstallsIn, IsPickedFrom, StandsIn};
-ghost use Rattle.tf_manifest.specs.Install.{AnswersAlike, IfNoMemory, OnFull, OnStale};
+ghost use Rattle.tf_manifest.specs.Install.{AreParts, IfNoMemory, OnFull, OnStale};
 ghost use Rattle.tf_manifest.specs.Kinds.{kind_of};
 ghost use Rattle.tf_manifest.specs.Run.{count_at};
 ghost use Rattle.tf_manifest.specs.View.{content_in, references_in, tables_by};
@@ -22,22 +22,38 @@ impl<'r, A: Allocator, N: Naming> Manifest<'r, A, N> {
         ensures full { references_in self.now row ≡ 64 → IsSome result }
     {
         match row.kind() {
-            Kind::Stamp(row) => self
-                .stamps
-                .row(row.index())
-                .pick()
-                .map(|job| Job::Stamp(row, job)),
-            Kind::Account => self.accounts.row(0).pick().map(|job| Job::Account(job)),
-            Kind::Transfer => self.transfers.row(0).pick().map(|job| Job::Transfer(job)),
-            Kind::Id => self.ids.row(0).pick().map(|job| Job::Id(job)),
-            Kind::Unit(row) => self
-                .units
-                .row(row.index())
-                .pick()
-                .map(|job| Job::Unit(row, job)),
-            Kind::State => self.states.row(0).pick().map(|job| Job::State(job)),
-            Kind::Sums => self.sums.row(0).pick().map(|job| Job::Sums(job)),
-            Kind::Status => self.statuses.row(0).pick().map(|job| Job::Status(job)),
+            Kind::Stamp(row) => match self.stamps.row(row.index()).pick() {
+                Some(job) => Some(Job::Stamp(row, job)),
+                None => None,
+            },
+            Kind::Account => match self.accounts.row(0).pick() {
+                Some(job) => Some(Job::Account(job)),
+                None => None,
+            },
+            Kind::Transfer => match self.transfers.row(0).pick() {
+                Some(job) => Some(Job::Transfer(job)),
+                None => None,
+            },
+            Kind::Id => match self.ids.row(0).pick() {
+                Some(job) => Some(Job::Id(job)),
+                None => None,
+            },
+            Kind::Unit(row) => match self.units.row(row.index()).pick() {
+                Some(job) => Some(Job::Unit(row, job)),
+                None => None,
+            },
+            Kind::State => match self.states.row(0).pick() {
+                Some(job) => Some(Job::State(job)),
+                None => None,
+            },
+            Kind::Sums => match self.sums.row(0).pick() {
+                Some(job) => Some(Job::Sums(job)),
+                None => None,
+            },
+            Kind::Status => match self.statuses.row(0).pick() {
+                Some(job) => Some(Job::Status(job)),
+                None => None,
+            },
         }
     }
 }
@@ -76,53 +92,53 @@ impl<'r, A: Allocator + Clone, N: Naming> Manifest<'r, A, N> {
         let pushes = &mut self.pushes;
         match merged {
             Merged::Stamp(row, out) => {
-                let answer = self.stamps.install(rt, row.index(), pushes, out);
-                handed(answer, |back| Merged::Stamp(row, back))
+                match parted(self.stamps.install(rt, row.index(), pushes, out)) {
+                    Ok(answer) => answer,
+                    Err(back) => Err(Uninstalled::NoMemory(Merged::Stamp(row, back))),
+                }
             }
-            Merged::Account(out) => {
-                let answer = self.accounts.install(rt, 0, pushes, out);
-                handed(answer, |back| Merged::Account(back))
-            }
-            Merged::Transfer(out) => {
-                let answer = self.transfers.install(rt, 0, pushes, out);
-                handed(answer, |back| Merged::Transfer(back))
-            }
-            Merged::Id(out) => {
-                let answer = self.ids.install(rt, 0, pushes, out);
-                handed(answer, |back| Merged::Id(back))
-            }
+            Merged::Account(out) => match parted(self.accounts.install(rt, 0, pushes, out)) {
+                Ok(answer) => answer,
+                Err(back) => Err(Uninstalled::NoMemory(Merged::Account(back))),
+            },
+            Merged::Transfer(out) => match parted(self.transfers.install(rt, 0, pushes, out)) {
+                Ok(answer) => answer,
+                Err(back) => Err(Uninstalled::NoMemory(Merged::Transfer(back))),
+            },
+            Merged::Id(out) => match parted(self.ids.install(rt, 0, pushes, out)) {
+                Ok(answer) => answer,
+                Err(back) => Err(Uninstalled::NoMemory(Merged::Id(back))),
+            },
             Merged::Unit(row, out) => {
-                let answer = self.units.install(rt, row.index(), pushes, out);
-                handed(answer, |back| Merged::Unit(row, back))
+                match parted(self.units.install(rt, row.index(), pushes, out)) {
+                    Ok(answer) => answer,
+                    Err(back) => Err(Uninstalled::NoMemory(Merged::Unit(row, back))),
+                }
             }
-            Merged::State(out) => {
-                let answer = self.states.install(rt, 0, pushes, out);
-                handed(answer, |back| Merged::State(back))
-            }
-            Merged::Sums(out) => {
-                let answer = self.sums.install(rt, 0, pushes, out);
-                handed(answer, |back| Merged::Sums(back))
-            }
-            Merged::Status(out) => {
-                let answer = self.statuses.install(rt, 0, pushes, out);
-                handed(answer, |back| Merged::Status(back))
-            }
+            Merged::State(out) => match parted(self.states.install(rt, 0, pushes, out)) {
+                Ok(answer) => answer,
+                Err(back) => Err(Uninstalled::NoMemory(Merged::State(back))),
+            },
+            Merged::Sums(out) => match parted(self.sums.install(rt, 0, pushes, out)) {
+                Ok(answer) => answer,
+                Err(back) => Err(Uninstalled::NoMemory(Merged::Sums(back))),
+            },
+            Merged::Status(out) => match parted(self.statuses.install(rt, 0, pushes, out)) {
+                Ok(answer) => answer,
+                Err(back) => Err(Uninstalled::NoMemory(Merged::Status(back))),
+            },
         }
     }
 }
 
-/// The same answer, with what it hands back changed.
-fn handed<M, K, F: FnOnce(M) -> K>(
-    answer: Result<(), Uninstalled<M>>,
-    change: F,
-) -> Result<(), Uninstalled<K>>
-    requires { F.IsAlwaysCallable change }
-    ensures { AnswersAlike (F.post change) answer result }
+/// The same answer where nothing is handed back, and else what is.
+fn parted<M, K>(answer: Result<(), Uninstalled<M>>) -> Result<Result<(), Uninstalled<K>>, M>
+    ensures { AreParts answer result }
 {
     match answer {
-        Ok(()) => Ok(()),
-        Err(Uninstalled::NoMemory(merged)) => Err(Uninstalled::NoMemory(change(merged))),
-        Err(Uninstalled::Stale) => Err(Uninstalled::Stale),
-        Err(Uninstalled::RegistryFull) => Err(Uninstalled::RegistryFull),
+        Ok(()) => Ok(Ok(())),
+        Err(Uninstalled::NoMemory(back)) => Err(back),
+        Err(Uninstalled::Stale) => Ok(Err(Uninstalled::Stale)),
+        Err(Uninstalled::RegistryFull) => Ok(Err(Uninstalled::RegistryFull)),
     }
 }

@@ -25,8 +25,6 @@ mod registry;
 mod row;
 mod slots;
 mod tables;
-#[cfg(test)]
-mod tests;
 mod uninstalled;
 mod value;
 mod whole;

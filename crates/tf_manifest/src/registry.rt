@@ -40,8 +40,7 @@ impl<V: RowValue, A: Allocator + Clone> Registry<V, A> {
     pub fn new(alloc: A) -> Result<Registry<V, A>, Refusal>
         ensures err { IfErr result (λ refusal. refusal ≡ Refusal.NoMemory) }
     {
-        let tree = Tree::new_in(alloc.clone()?);
-        let nothing = seal(alloc.clone()?, &tree)?;
+        let nothing = blank_body(alloc.clone()?)?;
         Ok(Registry {
             bodies: boxcar::Vec::new(alloc.clone()?)?,
             entries: boxcar::Vec::new(alloc)?,
@@ -49,7 +48,7 @@ impl<V: RowValue, A: Allocator + Clone> Registry<V, A> {
                 number: 0,
                 name: None,
             },
-            nothing: Body::new(nothing, 0, false),
+            nothing,
         })
     }
 
@@ -128,4 +127,14 @@ impl<V: RowValue, A: Allocator> Registry<V, A> {
             self.bodies.agrees(p, q);
         }
     }
+}
+
+/// The table in places that aren't used. The only refusal is `NoMemory`.
+fn blank_body<V: RowValue, A: Allocator + Clone>(alloc: A) -> Result<Body<V, A>, Refusal>
+    ensures body { IfOk result (λ body. body ≡ no_table) }
+    ensures err { IfErr result (λ refusal. refusal ≡ Refusal.NoMemory) }
+{
+    let tree = Tree::new_in(alloc.clone()?);
+    let table = seal(alloc, &tree)?;
+    Ok(Body::new(table, 0, false))
 }

@@ -1,8 +1,8 @@
 -- What a search in the keys of a table says of its rows.
-use Rattle.std.proofs.Common.{◌≡◌, ℕ, ◌+◌, ◌-◌, ◌<◌, ◌≤◌, List, [], ◌∷◌, length, take, drop, get_or, Option, Some, None, true, false, refl, arith, ap, sym, ◌∙◌, subst}
+use Rattle.std.proofs.Common.{◌≡◌, ℕ, ◌+◌, ◌-◌, ◌<◌, ◌≤◌, List, [], ◌∷◌, length, take, get_or, Option, Some, None, true, false, refl, arith, ap, sym, ◌∙◌, subst}
 use Rattle.std.specs.List.{zip}
-use Rattle.std.specs.Ordering.{is_lt, is_eq, is_gt}
-use Rattle.tf_btree.specs.Rows.{rows_from, rows_upto, value_at}
+use Rattle.std.specs.Ordering.{is_lt, is_eq}
+use Rattle.tf_btree.specs.Rows.{value_at}
 use Rattle.std.proofs.lemmas.List.{get_or_default}
 use Rattle.std.proofs.lemmas.List.Elements.{All-head, All-tail}
 use Rattle.tf_table.specs.declared.key.Key.{Key}
@@ -16,7 +16,7 @@ use Rattle.tf_table.specs.Content.{entry_at}
 use Rattle.tf_table.proofs.Keys.{keys_total, exact_keys}
 use Rattle.tf_table.proofs.LaidOut.{length-rows_of, row_there, key_there}
 use Rattle.tf_table.proofs.Rising.{AllBefore, is_eq-not, value_at-there}
-use Rattle.tf_table.proofs.Places.{before_all, value_at-place, value_at-missing, value_at-end, value_at-under, value_at-over, rows_from-place, rows_upto-place}
+use Rattle.tf_table.proofs.Places.{before_all, value_at-place, value_at-missing, value_at-end, value_at-under, value_at-over}
 
 -- no row has a value that the filter doesn't hold
 entry_at-zip : {E : Type 0} (words : List ℕ) (key : Key) (ks : List Key) (es : List E) → HoldsEach words ks → (Holds words key.value → ⊥) → value_at key_cmp key (zip ks es) ≡ None
@@ -70,15 +70,3 @@ module _ {V A : Type 0} {span : Option Span} (least greatest : Key) (ks : List K
       let n : length (rows_of ks es) - 1 ≡ length ks - 1 = ap (λ m. m - 1) length-laid in
       let last : greatest ≡ (get_or (rows_of ks es) (length ks - 1) d').0 = laid.last some ∙ sym (key_there ks es (length ks - 1) d' laid.paired (omega arith)) in
       subst (λ x. is_lt (key_cmp x key) ≡ true) (last ∙ ap (λ (r : Key × Option V). r.0) (get_or_default (rows_of ks es) (length ks - 1) d' d (omega (arith, length-laid))) ∙ ap (λ m. (get_or (rows_of ks es) m d).0) (sym n)) e)
-
-  -- the rows of a seek
-  pub laid_from : (key : Key) (p : ℕ) → p ≤ length ks → ((q : ℕ) (d : Key) → q + 1 ≡ p → is_lt (key_cmp (get_or ks q d) key) ≡ true) → ((d : Key) → p < length ks → is_lt (key_cmp (get_or ks p d) key) ≡ false) → rows_from key_cmp key (rows_of ks es) ≡ drop p (rows_of ks es)
-  laid_from key p l before after =
-      rows_from-place key_cmp keys_total key (rows_of ks es) p laid.rising (laid_before key p l before)
-      (λ d h. subst (λ k. is_lt (key_cmp k key) ≡ false) (sym (key_there ks es p d laid.paired (omega (arith, length-laid)))) (after d.0 (omega (arith, length-laid))))
-
-  pub laid_upto : (key : Key) (p : ℕ) → p ≤ length ks → ((q : ℕ) (d : Key) → q + 1 ≡ p → is_gt (key_cmp (get_or ks q d) key) ≡ false) → ((d : Key) → p < length ks → is_gt (key_cmp (get_or ks p d) key) ≡ true) → rows_upto key_cmp key (rows_of ks es) ≡ take p (rows_of ks es)
-  laid_upto key p l before after =
-      rows_upto-place key_cmp keys_total key (rows_of ks es) p laid.rising (omega (arith, length-laid))
-      (λ q d e. subst (λ k. is_gt (key_cmp k key) ≡ false) (sym (key_there ks es q d laid.paired (omega arith))) (before q d.0 e))
-      (λ d h. subst (λ k. is_gt (key_cmp k key) ≡ true) (sym (key_there ks es p d laid.paired (omega (arith, length-laid)))) (after d.0 (omega (arith, length-laid))))

@@ -2,12 +2,15 @@
 use Rattle.std.proofs.Common.{◌≡◌, ℕ, zero, suc, ◌+◌, ◌-◌, ◌<◌, ◌≤◌, List, [], ◌∷◌, ◌++◌, length, take, drop, get_or, Option, Some, None, sym, ◌∙◌, ap, arith}
 use Rattle.std.specs.List.{slice_get}
 use Rattle.std.specs.Option.{MatchOption, option_map}
-use Rattle.std.proofs.lemmas.List.{drop_more, take_more, length-drop, get_or-drop}
+use Rattle.std.proofs.lemmas.List.{drop_more, take_all, take_more, length-drop, get_or-drop}
 use Rattle.std.proofs.lemmas.Option.{get_or_from_slice_get, none-some}
 
 -- the list from a place up to another
 abbrev pub span : {X : Type 0} → ℕ → ℕ → List X → List X
 span from to xs = take (to - from) (drop from xs)
+
+pub span_all : {X : Type 0} (n : ℕ) (xs : List X) → n ≡ length xs → span 0 n xs ≡ xs
+span_all n xs e = take_all (n - 0) xs (omega arith)
 
 pub span_none : {X : Type 0} (from to : ℕ) (xs : List X) → from ≡ to → span from to xs ≡ []
 span_none from to xs e = let n : to - from ≡ 0 = omega arith in ap (λ m. take m (drop from xs)) n

@@ -42,7 +42,8 @@ take-span from to p xs l =
     let n : p ≡ (from + p) - from = omega arith in
     take-take p (to - from) (drop from xs) l ∙ ap (λ m. take m (drop from xs)) n
 
-module _ {V A : Type 0} {times : Option Span} (least greatest : Key) (ks : List Key) (es : Entries V A) (laid : IsLaidOut least greatest times ks es) (from to : ℕ) (ordered : from ≤ to) (within : to ≤ length ks) where
+-- with `keys` for those of the rows from one place up to another
+module _ {V A : Type 0} {times : Option Span} (least greatest : Key) (ks : List Key) (es : Entries V A) (laid : IsLaidOut least greatest times ks es) (from to : ℕ) (ordered : from ≤ to) (within : to ≤ length ks) (keys : List Key) (are : keys ≡ span from to ks) where
   abbrev pub rows : List (Key × Option V)
   rows = rows_of ks es
 
@@ -52,28 +53,34 @@ module _ {V A : Type 0} {times : Option Span} (least greatest : Key) (ks : List 
   abbrev pub some : List (Key × Option V)
   some = span from to rows
 
-  length-some : length some ≡ to - from
-  length-some = length-span from to rows ordered (omega (arith, length-rows))
+  length-some : length some ≡ length keys
+  length-some = length-span from to rows ordered (omega (arith, length-rows)) ∙ sym (length-span from to ks ordered within) ∙ sym (ap length are)
+
+  length-keys : length keys ≡ to - from
+  length-keys = ap length are ∙ length-span from to ks ordered within
 
   rising-some : IsRising key_cmp some
   rising-some = IsRising-take key_cmp (to - from) (drop from rows) (IsRising-drop key_cmp keys_total from rows laid.rising)
 
-  -- the keys of these rows lie side by side too
-  key_within : (q : ℕ) (d : Key × Option V) → q < to - from → (get_or some q d).0 ≡ get_or (span from to ks) q d.0
-  key_within q d l = ap (λ (r : Key × Option V). r.0) (get_or-span from to rows q d l) ∙ key_there ks es (from + q) d laid.paired (omega arith) ∙ sym (get_or-span from to ks q d.0 l)
+  -- these are the keys of the rows there
+  key_within : (q : ℕ) (d : Key × Option V) → q < length keys → (get_or some q d).0 ≡ get_or keys q d.0
+  key_within q d l =
+      let there : q < to - from = omega (arith, length-keys) in
+      ap (λ (r : Key × Option V). r.0) (get_or-span from to rows q d there) ∙ key_there ks es (from + q) d laid.paired (omega arith)
+      ∙ sym (get_or-span from to ks q d.0 there) ∙ ap (λ (found : List Key). get_or found q d.0) (sym are)
 
-  pub some_from : (key : Key) (p : ℕ) → p ≤ to - from → ((q : ℕ) (d : Key) → q + 1 ≡ p → is_lt (key_cmp (get_or (span from to ks) q d) key) ≡ true) → ((d : Key) → p < to - from → is_lt (key_cmp (get_or (span from to ks) p d) key) ≡ false)
+  pub some_from : (key : Key) (p : ℕ) → p ≤ length keys → ((q : ℕ) (d : Key) → q + 1 ≡ p → is_lt (key_cmp (get_or keys q d) key) ≡ true) → ((d : Key) → p < length keys → is_lt (key_cmp (get_or keys p d) key) ≡ false)
       → span (from + p) to rows ≡ rows_from key_cmp key (span from to rows)
   some_from key p l before after =
       sym (rows_from-place key_cmp keys_total key some p rising-some
       (before_all key_cmp keys_total key some p rising-some (omega (arith, length-some)) (λ q d e. subst (λ k. is_lt (key_cmp k key) ≡ true) (sym (key_within q d (omega arith))) (before q d.0 e)))
-      (λ d h. subst (λ k. is_lt (key_cmp k key) ≡ false) (sym (key_within p d (omega (arith, length-some)))) (after d.0 (omega (arith, length-some))))
-      ∙ drop-span from to p rows l)
+      (λ d h. let there : p < length keys = omega (arith, length-some) in subst (λ k. is_lt (key_cmp k key) ≡ false) (sym (key_within p d there)) (after d.0 there))
+      ∙ drop-span from to p rows (omega (arith, length-keys)))
 
-  pub some_upto : (key : Key) (p : ℕ) → p ≤ to - from → ((q : ℕ) (d : Key) → q + 1 ≡ p → is_gt (key_cmp (get_or (span from to ks) q d) key) ≡ false) → ((d : Key) → p < to - from → is_gt (key_cmp (get_or (span from to ks) p d) key) ≡ true)
+  pub some_upto : (key : Key) (p : ℕ) → p ≤ length keys → ((q : ℕ) (d : Key) → q + 1 ≡ p → is_gt (key_cmp (get_or keys q d) key) ≡ false) → ((d : Key) → p < length keys → is_gt (key_cmp (get_or keys p d) key) ≡ true)
       → span from (from + p) rows ≡ rows_upto key_cmp key (span from to rows)
   some_upto key p l before after =
       sym (rows_upto-place key_cmp keys_total key some p rising-some (omega (arith, length-some))
       (λ q d e. subst (λ k. is_gt (key_cmp k key) ≡ false) (sym (key_within q d (omega arith))) (before q d.0 e))
-      (λ d h. subst (λ k. is_gt (key_cmp k key) ≡ true) (sym (key_within p d (omega (arith, length-some)))) (after d.0 (omega (arith, length-some))))
-      ∙ take-span from to p rows l)
+      (λ d h. let there : p < length keys = omega (arith, length-some) in subst (λ k. is_gt (key_cmp k key) ≡ true) (sym (key_within p d there)) (after d.0 there))
+      ∙ take-span from to p rows (omega (arith, length-keys)))

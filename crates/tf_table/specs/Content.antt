@@ -37,6 +37,10 @@ values_of ((key, None) ∷ rows) = values_of rows
 abbrev pub AreTombstones : {K V : Type 0} → List (K × Option V) → Type 0
 AreTombstones rows = All (λ row. row.1 ≡ None) rows
 
+-- the rows have the same entry, each of them
+abbrev pub HaveOneEntry : {K V : Type 0} → List (K × Option V) → Type 0
+HaveOneEntry {K} {V} rows = (entry : Option V) × All (λ row. row.1 ≡ entry) rows
+
 -- pairs as rows
 abbrev pub rows_with : {K V : Type 0} → List (K × V) → List (K × Option V)
 rows_with [] = []

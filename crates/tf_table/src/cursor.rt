@@ -36,10 +36,11 @@ impl<V, A: Allocator> Sealed<V, A> {
     pub fn seek(&self, key: &Key) -> Cursor<'_, V, A>
         ensures { result ≡ rows_from key_cmp key.now self.now }
     {
+        let to = self.len();
         Cursor {
             table: self,
-            from: count_below(&self.keys, key, Start::Middle),
-            to: self.len(),
+            from: self.first_from(0, to, key, Start::Middle),
+            to,
         }
     }
 
@@ -47,10 +48,11 @@ impl<V, A: Allocator> Sealed<V, A> {
     pub fn seek_back(&self, key: &Key) -> Cursor<'_, V, A>
         ensures { result ≡ rows_upto key_cmp key.now self.now }
     {
+        let len = self.len();
         Cursor {
             table: self,
             from: 0,
-            to: count_upto(&self.keys, key, Start::Middle),
+            to: self.last_upto(0, len, key, Start::Middle),
         }
     }
 
@@ -65,24 +67,26 @@ impl<V, A: Allocator> Sealed<V, A> {
 }
 
 impl<V, A: Allocator> Sealed<V, A> {
-    /// Of the rows from one place up to another the first that isn't below `key`, looked for from their front.
-    fn first_from(&self, from: usize, to: usize, key: &Key) -> usize
+    /// Of the rows from one place up to another the first that isn't below `key`.
+    #[inline]
+    fn first_from(&self, from: usize, to: usize, key: &Key, start: Start) -> usize
         requires ordered { from ≤ to }
         requires within { to ≤ length self.now }
         ensures within { (from ≤ result) × (result ≤ to) }
         ensures rows { take (to - result) (drop result self.now) ≡ rows_from key_cmp key.now (take (to - from) (drop from self.now)) }
     {
-        from + count_below(part(&self.keys, from, to), key, Start::Front)
+        from + count_below(part(&self.keys, from, to), key, start)
     }
 
-    /// The place behind the last of them that isn't above `key`, looked for from their back.
-    fn last_upto(&self, from: usize, to: usize, key: &Key) -> usize
+    /// The place behind the last of them that isn't above `key`.
+    #[inline]
+    fn last_upto(&self, from: usize, to: usize, key: &Key, start: Start) -> usize
         requires ordered { from ≤ to }
         requires within { to ≤ length self.now }
         ensures within { (from ≤ result) × (result ≤ to) }
         ensures rows { take (result - from) (drop from self.now) ≡ rows_upto key_cmp key.now (take (to - from) (drop from self.now)) }
     {
-        from + count_upto(part(&self.keys, from, to), key, Start::Back)
+        from + count_upto(part(&self.keys, from, to), key, start)
     }
 }
 
@@ -95,7 +99,7 @@ impl<'a, V, A: Allocator> Cursor<'a, V, A> {
         ensures { self.new ≡ rows_from key_cmp key.now self.old }
     {
         let table = self.table;
-        self.from = table.first_from(self.from, self.to, key);
+        self.from = table.first_from(self.from, self.to, key, Start::Front);
     }
 
     /// The same from the back: of the rows that are still to come, those not above `key` stay.
@@ -103,7 +107,7 @@ impl<'a, V, A: Allocator> Cursor<'a, V, A> {
         ensures { self.new ≡ rows_upto key_cmp key.now self.old }
     {
         let table = self.table;
-        self.to = table.last_upto(self.from, self.to, key);
+        self.to = table.last_upto(self.from, self.to, key, Start::Back);
     }
 }
 

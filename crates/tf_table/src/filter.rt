@@ -1,5 +1,5 @@
 //! The filter of a table: which values its keys may have.
-ghost use Rattle.std.specs.Prelude.{◌≡◌, ◌^◌, ◌%◌, ℕ, length, IfOk, true};
+ghost use Rattle.std.specs.Prelude.{◌≡◌, ◌+◌, ◌/◌, ◌^◌, ◌%◌, ℕ, length, IfOk, true, if◌then◌else◌};
 ghost use Rattle.tf_table.specs.Filter.{hash_of, place_of, bit_of, bits_of, Holds, HoldsEach};
 
 use crate::Key;
@@ -17,7 +17,8 @@ pub(crate) struct Filter<A: Allocator> {
 impl<A: Allocator> Filter<A> {
     /// The filter of the keys if it is wanted, else one that says nothing and takes no memory. It goes over the keys once.
     pub(crate) fn of(alloc: A, keys: &[Key], wanted: bool) -> Result<Self, AllocError>
-        ensures { IfOk result (λ filter. HoldsEach filter.words.items keys.now) }
+        ensures held { IfOk result (λ filter. HoldsEach filter.words.items keys.now) }
+        ensures words { IfOk result (λ filter. length filter.words.items ≡ (if wanted then length keys.now / KEYS_A_WORD + 1 else 0)) }
     {
         if !wanted {
             return Ok(Filter {
@@ -31,10 +32,11 @@ impl<A: Allocator> Filter<A> {
         Ok(Filter { words })
     }
 
-    /// Whether a key may have the value: false only where none has. It reads one word.
+    /// Whether a key may have the value: whether its bits are set. It reads one word.
     #[inline]
     pub(crate) fn may_hold(&self, value: u128) -> bool
-        ensures { Holds self.now.words.items value → result ≡ true }
+        ensures held { Holds self.now.words.items value → result ≡ true }
+        ensures unheld { result ≡ true → Holds self.now.words.items value }
     {
         if self.words.is_empty() {
             return true;
@@ -50,6 +52,7 @@ impl<A: Allocator> Filter<A> {
 fn put<A: Allocator>(words: &mut Vec<u64, A>, value: u128)
     ensures value { Holds words.new.items value }
     ensures others { (other : ℕ) → Holds words.old.items other → Holds words.new.items other }
+    ensures length { length words.new.items ≡ length words.old.items }
 {
     let hash = hash(value);
     let place = place(words.len(), hash);

@@ -3,7 +3,7 @@ ghost use Rattle.std.specs.Prelude.{◌≡◌, ◌+◌, ◌^◌, ◌<◌, ◌≤
 ghost use Rattle.std.specs.Option.{option_copied, option_map};
 ghost use Rattle.tf_btree.specs.Rows.{IsRising};
 ghost use Rattle.tf_table.specs.Key.{key_cmp};
-ghost use Rattle.tf_table.specs.Content.{entry_at, AreTombstones};
+ghost use Rattle.tf_table.specs.Content.{entry_at, AreTombstones, HaveOneEntry};
 ghost use Rattle.tf_table.specs.Merge.{seen};
 ghost use Rattle.tf_table.specs.Span.{HasSpan, timestamps};
 
@@ -69,10 +69,11 @@ impl<V, A: Allocator> Sealed<V, A> {
         self.keys.capacity()
     }
 
-    /// For how many entries there is room: for one if they all repeat the first, as tombstones do, else for one of each
-    /// row.
+    /// For how many entries there is room: for one of each row, or for one alone where the rows have the same entry and
+    /// it is stored once, as a tombstone is.
     pub fn entry_capacity(&self) -> usize
         ensures within { result ≤ length self.now }
+        ensures fewer { result < length self.now → (result ≡ 1) × HaveOneEntry self.now }
         ensures tombstones { AreTombstones self.now → result ≤ 1 }
     {
         match &self.entries {

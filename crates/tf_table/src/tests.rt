@@ -1,122 +1,25 @@
-//! The worked example of two small tables, and each public call once.
+//! How much the filter tells, which no public call shows. All other tests stand in a crate of their own.
 
-mod edges;
-mod many;
-mod mutable;
-mod refusals;
-mod seeks;
-
-use crate::{Key, Sealed, merge, seal};
-use std::alloc::{Allocator, Global};
+use crate::Key;
+use crate::filter::Filter;
 use std::test::Fail;
-use tf_btree::Tree;
 
-/// A key with this value, of a record with timestamp 1.
-fn key(value: u128) -> Key {
-    Key {
-        value,
-        timestamp: 1,
+#[test]
+fn a_filter_knows_most_values_that_no_key_has(rt: HostRuntime) -> Result<(), Fail> {
+    let mut keys = Vec::new(rt.alloc());
+    for value in 0..600u64 {
+        keys.push(Key {
+            value: u128::from(value) << 64,
+            timestamp: 1,
+        })?;
     }
-}
-
-/// A tree with these rows, which come in key order.
-fn tree_of<A: Allocator + Clone>(
-    alloc: A,
-    rows: &[(u128, Option<u64>)],
-) -> Result<Tree<Key, Option<u64>, A>, Fail> {
-    let mut tree = Tree::new_in(alloc);
-    for (value, entry) in rows {
-        let _ = tree.insert(key(*value), *entry).ok().ok_or("no memory")?;
+    let filter = Filter::of(rt.alloc(), &keys, true)?;
+    let mut taken = 0u32;
+    for value in 600..1200u64 {
+        if filter.may_hold(u128::from(value) << 64) {
+            taken = taken.saturating_add(1);
+        }
     }
-    Ok(tree)
-}
-
-/// The rows of a table, by a walk from its least key.
-fn rows_of<A: Allocator>(
-    rt: &HostRuntime,
-    table: &Sealed<u64, A>,
-) -> Result<Vec<(u128, Option<u64>)>, Fail> {
-    let mut rows = Vec::new(rt.alloc());
-    for (key, entry) in table.seek(&Key::LEAST) {
-        rows.push((key.value, entry.copied()))?;
-    }
-    Ok(rows)
-}
-
-#[test]
-fn merge_of_two_tables_with_a_tombstone(rt: HostRuntime) -> Result<(), Fail> {
-    let newest = seal(
-        rt.alloc(),
-        &tree_of(rt.alloc(), &[(5, None), (7, Some(10))])?,
-    )?;
-    let older = seal(
-        rt.alloc(),
-        &tree_of(rt.alloc(), &[(5, Some(20)), (6, Some(30))])?,
-    )?;
-    let tables = [&newest, &older];
-    let above = merge(rt.alloc(), &tables, false)?;
-    assert_eq!(rt;
-        rows_of(&rt, &above)?.as_slice(),
-        [(5, None), (6, Some(30)), (7, Some(10))].as_slice()
-    );
-    let bottom = merge(rt.alloc(), &tables, true)?;
-    assert_eq!(rt;
-        rows_of(&rt, &bottom)?.as_slice(),
-        [(6, Some(30)), (7, Some(10))].as_slice()
-    );
-    Ok(())
-}
-
-#[test]
-fn merge_of_no_tables_is_empty(rt: HostRuntime) -> Result<(), Fail> {
-    let none: [&Sealed<u64, Global>; 0] = [];
-    assert!(rt; merge(rt.alloc(), &none, false)?.is_empty());
-    assert!(rt; merge(rt.alloc(), &none, true)?.is_empty());
-    Ok(())
-}
-
-#[test]
-fn an_empty_tree_gives_an_empty_table(rt: HostRuntime) -> Result<(), Fail> {
-    let table = seal(rt.alloc(), &tree_of(rt.alloc(), &[])?)?;
-    assert_eq!(rt; table.len(), 0);
-    assert!(rt; table.find(&key(5)).is_none());
-    assert!(rt; table.seek(&key(5)).next().is_none());
-    Ok(())
-}
-
-#[test]
-fn find_tells_values_tombstones_and_missing_keys(rt: HostRuntime) -> Result<(), Fail> {
-    let table = seal(
-        rt.alloc(),
-        &tree_of(rt.alloc(), &[(5, None), (7, Some(10)), (9, Some(11))])?,
-    )?;
-    assert_eq!(rt; table.len(), 3);
-    assert_eq!(rt; table.find(&key(4)).map(|e| e.copied()), None);
-    assert_eq!(rt; table.find(&key(5)).map(|e| e.copied()), Some(None));
-    assert_eq!(rt; table.find(&key(6)).map(|e| e.copied()), None);
-    assert_eq!(rt; table.find(&key(9)).map(|e| e.copied()), Some(Some(11)));
-    assert_eq!(rt; table.find(&key(10)).map(|e| e.copied()), None);
-    Ok(())
-}
-
-#[test]
-fn seek_goes_both_ways(rt: HostRuntime) -> Result<(), Fail> {
-    let table = seal(
-        rt.alloc(),
-        &tree_of(
-            rt.alloc(),
-            &[(1, Some(3)), (3, Some(3)), (5, Some(3)), (7, Some(3))],
-        )?,
-    )?;
-    let mut up = table.seek(&key(2));
-    assert_eq!(rt; up.next().map(|r| r.0.value), Some(3));
-    assert_eq!(rt; up.next_back().map(|r| r.0.value), Some(7));
-    assert_eq!(rt; up.next().map(|r| r.0.value), Some(5));
-    assert_eq!(rt; up.next().map(|r| r.0.value), None);
-    let mut down = table.seek_back(&key(6));
-    assert_eq!(rt; down.next_back().map(|r| r.0.value), Some(5));
-    assert_eq!(rt; down.next_back().map(|r| r.0.value), Some(3));
-    assert_eq!(rt; down.next_back().map(|r| r.0.value), Some(1));
-    assert_eq!(rt; down.next_back().map(|r| r.0.value), None);
+    assert!(rt; taken < 30, "{taken} of 600");
     Ok(())
 }

@@ -1,9 +1,12 @@
-use Rattle.std.proofs.Common.{◌≡◌, ◌<◌, ◌∙◌, ap, subst, length, List, IfErr, [], arith}
+use Rattle.std.proofs.Common.{◌≡◌, ◌<◌, ◌∙◌, ap, sym, subst, length, List, IfErr, [], slice_set, arith}
 use Rattle.std.specs.Prelude.{slice_index_or}
+use Rattle.std.specs.List.{refill}
 use Rattle.std.proofs.lemmas.List.{get_or_default}
-use Rattle.tf_manifest.specs.Install.{OnFull, IfNoMemory}
-use Rattle.tf_manifest.specs.Run.{Stands}
+use Rattle.tf_btree.proofs.Children.{on_ok}
+use Rattle.tf_manifest.specs.Install.{OnFull, OnStale, IfNoMemory}
+use Rattle.tf_manifest.specs.Run.{Stands, Installs}
 use Rattle.tf_manifest.specs.Table.{Shown}
+use Rattle.tf_manifest.proofs.Maps.{refill_whole, length-slice_set, set_back, on_err}
 use Rattle.tf_manifest.proofs.kind_rows.KindRows.install.Given as given
 use Rattle.tf_manifest.proofs.kind_rows.KindRows.install.Goals as goal
 
@@ -13,6 +16,35 @@ same g c =
     let within : c.args.at < length c.as_mut_slice.result.now = omega (arith, c.requires, ap length items, c.self.invariant.1) in
     get_or_default c.as_mut_slice.result.now c.args.at c.index-as_mut_slice-at.result [] within
     ∙ ap (λ (rows : List (List (Shown g.row.V.Denot))). slice_index_or rows c.args.at []) (items ∙ c.self.view_is)
+
+-- the row that was changed, in its place
+written : (g : given.Over) (c : goal.After-self-1 g) → refill (length c.self.inside.list.items) c.self.inside.list.items (slice_set c.as_mut_slice.result.now c.args.at c.install.new.self) ≡ slice_set c.args.self.now c.args.at c.install.new.self
+written g c =
+    let items = c.as_mut_slice.ensures.value in
+    refill_whole (length c.self.inside.list.items) c.self.inside.list.items (slice_set c.as_mut_slice.result.now c.args.at c.install.new.self)
+    (ap length (sym items) ∙ sym (length-slice_set c.as_mut_slice.result.now c.args.at c.install.new.self))
+    ∙ ap (λ (rows : List (List (Shown g.row.V.Denot))). slice_set rows c.args.at c.install.new.self) (items ∙ c.self.view_is)
+
+pub returns-clause-installs : goal.returns-clause-installs
+returns-clause-installs g c =
+    on_ok c.install.result _ _
+    (λ i. record {
+      tables = c.install.new.self;
+      is = written g c;
+      installs = subst (λ (ts : List (Shown g.row.V.Denot)). Installs ts c.args.merged.run c.args.merged.table c.install.new.self) (same g c) i;
+    })
+    c.install.ensures.installs
+
+pub returns-clause-err : goal.returns-clause-err
+returns-clause-err g c =
+    on_err c.install.result _ _
+    (λ h. (written g c ∙ set_back c.args.self.now c.args.at c.install.new.self [] (h.0 ∙ same g c), h.1))
+    c.install.ensures.err
+
+pub returns-clause-stale : goal.returns-clause-stale
+returns-clause-stale g c =
+    subst (λ (ts : List (Shown g.row.V.Denot)). IfErr c.install.result (λ e. OnStale e (Stands ts c.args.merged.run → ⊥)))
+    (same g c) c.install.ensures.stale
 
 pub returns-clause-full : goal.returns-clause-full
 returns-clause-full g c =

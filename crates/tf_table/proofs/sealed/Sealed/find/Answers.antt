@@ -21,7 +21,7 @@ returns-then-is_lt g c =
 pub returns-then-not-may_hold : goal.returns-then-not-may_hold
 returns-then-not-may_hold g c =
     let t = c.self.inside in
-    sym (entry_at-unheld t.filter.words.items c.args.key.now t.keys.items t.entries c.self.invariant.held (λ held. false≢true (sym c.if-not-may_hold.true ∙ c.may_hold.ensures held)))
+    sym (entry_at-unheld t.filter.words.items c.args.key.now t.keys.items t.entries c.self.invariant.held (λ held. false≢true (sym c.if-not-may_hold.true ∙ c.may_hold.ensures.held held)))
     ∙ ap (entry_at c.args.key.now) c.self.view_is
 
 pub returns-then-is_eq : goal.returns-then-is_eq

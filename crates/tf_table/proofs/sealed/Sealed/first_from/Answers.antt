@@ -1,11 +1,10 @@
-use Rattle.std.proofs.Common.{◌≡◌, ◌-◌, List, ◌+◌, ◌≤◌, length, get_or, Option, true, false, arith, ap, ◌∙◌, subst}
-use Rattle.std.specs.Ordering.{is_lt}
+use Rattle.std.proofs.Common.{◌≡◌, List, ◌+◌, ◌≤◌, length, Option, arith, ap, ◌∙◌, subst}
 use Rattle.tf_btree.specs.Rows.{rows_from}
 use Rattle.tf_table.specs.declared.key.Key.{Key}
 use Rattle.tf_table.specs.Key.{key_cmp}
 use Rattle.tf_table.proofs.LaidOut.{length-rows_of}
 use Rattle.tf_table.proofs.Spans.{span}
-use Rattle.tf_table.proofs.Within.{some_from, length-span}
+use Rattle.tf_table.proofs.Within.{some_from}
 use Rattle.tf_table.proofs.sealed.Sealed.first_from.Goals as goal
 
 pub part-requires-clause-within : goal.part-requires-clause-within
@@ -25,9 +24,7 @@ returns-clause-rows g c =
     let rows = length-rows_of keys t.entries c.self.invariant.laid.paired in
     let seen = ap length c.self.view_is in
     let within : to ≤ length keys = omega (arith, rows, seen, c.requires.within) in
-    let some : c.part.result.now ≡ span from to keys = c.part.ensures ∙ ap (λ (ks : List Key). span from to ks) c.deref.ensures.value in
-    let n : length c.part.result.now ≡ to - from = ap length some ∙ length-span from to keys c.requires.ordered within in
+    let found : c.part.result.now ≡ span from to keys = c.part.ensures ∙ ap (λ (ks : List Key). span from to ks) c.deref.ensures.value in
+    let counted = c.count_below.ensures in
     subst (λ (rs : List (Key × Option g.row.V.Denot)). span (from + p) to rs ≡ rows_from key_cmp key (span from to rs)) c.self.view_is
-    (some_from t.least t.greatest keys t.entries c.self.invariant.laid from to c.requires.ordered within key p (omega (arith, n, c.count_below.ensures.within))
-    (λ q d e. subst (λ ks. is_lt (key_cmp (get_or ks q d) key) ≡ true) some (c.count_below.ensures.before q d e))
-    (λ d h. subst (λ ks. is_lt (key_cmp (get_or ks p d) key) ≡ false) some (c.count_below.ensures.after d (omega (arith, n)))))
+    (some_from t.least t.greatest keys t.entries c.self.invariant.laid from to c.requires.ordered within c.part.result.now found key p counted.within counted.before counted.after)

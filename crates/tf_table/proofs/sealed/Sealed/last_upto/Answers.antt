@@ -1,11 +1,10 @@
-use Rattle.std.proofs.Common.{◌≡◌, ◌-◌, List, ◌+◌, ◌≤◌, length, get_or, Option, true, false, arith, ap, ◌∙◌, subst}
-use Rattle.std.specs.Ordering.{is_gt}
+use Rattle.std.proofs.Common.{◌≡◌, List, ◌+◌, ◌≤◌, length, Option, arith, ap, ◌∙◌, subst}
 use Rattle.tf_btree.specs.Rows.{rows_upto}
 use Rattle.tf_table.specs.declared.key.Key.{Key}
 use Rattle.tf_table.specs.Key.{key_cmp}
 use Rattle.tf_table.proofs.LaidOut.{length-rows_of}
 use Rattle.tf_table.proofs.Spans.{span}
-use Rattle.tf_table.proofs.Within.{some_upto, length-span}
+use Rattle.tf_table.proofs.Within.{some_upto}
 use Rattle.tf_table.proofs.sealed.Sealed.last_upto.Goals as goal
 
 pub part-requires-clause-within : goal.part-requires-clause-within
@@ -25,9 +24,7 @@ returns-clause-rows g c =
     let rows = length-rows_of keys t.entries c.self.invariant.laid.paired in
     let seen = ap length c.self.view_is in
     let within : to ≤ length keys = omega (arith, rows, seen, c.requires.within) in
-    let some : c.part.result.now ≡ span from to keys = c.part.ensures ∙ ap (λ (ks : List Key). span from to ks) c.deref.ensures.value in
-    let n : length c.part.result.now ≡ to - from = ap length some ∙ length-span from to keys c.requires.ordered within in
+    let found : c.part.result.now ≡ span from to keys = c.part.ensures ∙ ap (λ (ks : List Key). span from to ks) c.deref.ensures.value in
+    let counted = c.count_upto.ensures in
     subst (λ (rs : List (Key × Option g.row.V.Denot)). span from (from + p) rs ≡ rows_upto key_cmp key (span from to rs)) c.self.view_is
-    (some_upto t.least t.greatest keys t.entries c.self.invariant.laid from to c.requires.ordered within key p (omega (arith, n, c.count_upto.ensures.within))
-    (λ q d e. subst (λ ks. is_gt (key_cmp (get_or ks q d) key) ≡ false) some (c.count_upto.ensures.before q d e))
-    (λ d h. subst (λ ks. is_gt (key_cmp (get_or ks p d) key) ≡ true) some (c.count_upto.ensures.after d (omega (arith, n)))))
+    (some_upto t.least t.greatest keys t.entries c.self.invariant.laid from to c.requires.ordered within c.part.result.now found key p counted.within counted.before counted.after)

@@ -1,0 +1,169 @@
+//! Runs of two tables: picked, merged, installed, replaced.
+ghost use Rattle.std.specs.Prelude.{◌≡◌, ◌<◌, ◌≤◌, length};
+ghost use Rattle.tf_manifest.specs.Row.{weight};
+
+use crate::fixture::{Outcome, TreeRow, assert_row, grow, install, key, merged, row_of, value_at};
+use std::alloc::Global;
+use std::marker::Brand;
+use std::process::Abort;
+use std::sync::Wait;
+use std::test::Fail;
+use tf_manifest::{Naming, Pushes, Registry, TableRef};
+
+fn two_jobs_of_one_run<N: Naming>(
+    rt: &(impl Abort + Wait),
+    alloc: Global,
+    registry: &Registry<u64, Global>,
+) -> Result<(), Fail>
+    requires here { registry.now ≡ N.shelf 0 }
+{
+    let mut row = row_of::<Global, N, _>(rt, &alloc, registry, 5)?;
+    assert_row(rt, &row, 5, 5);
+    let jobs = (
+        merged(alloc, &row)?,
+        merged(alloc, &row)?,
+        merged(alloc, &row)?,
+    );
+    let mut none = Pushes::new(0);
+    let mut pushes = Pushes::new(7);
+    let full = install(rt, registry, &mut row, &mut none, jobs.0);
+    assert_eq!(rt; full, Outcome::RegistryFull);
+    assert_row(rt, &row, 5, 5);
+    let done = install(rt, registry, &mut row, &mut pushes, jobs.1);
+    assert_eq!(rt; done, Outcome::Installed);
+    assert_row(rt, &row, 4, 5);
+    let stale = install(rt, registry, &mut row, &mut pushes, jobs.2);
+    assert_eq!(rt; stale, Outcome::Stale);
+    assert_row(rt, &row, 4, 5);
+    assert_eq!(rt; (none.count(), pushes.count(), pushes.limit()), (0, 1, 7));
+    assert!(rt; row.tables().pick().is_none());
+    Ok(())
+}
+
+#[test]
+fn the_second_install_of_one_run_is_stale(rt: HostRuntime) -> Result<(), Fail> {
+    let registry = Registry::new(rt.alloc())?;
+    two_jobs_of_one_run::<Brand>(&rt, rt.alloc(), &registry)
+}
+
+/// Merges the run of a row of 64 tables in its place, and pushes a table more. It gives the merged table.
+fn push_into_full_row<'r, N: Naming>(
+    rt: &impl Wait,
+    alloc: Global,
+    registry: &'r Registry<u64, Global>,
+    row: &mut TreeRow<'r, Global, N>,
+) -> Result<TableRef<'r, u64, Global, N>, Fail>
+    requires here { registry.now ≡ N.shelf 0 }
+    requires room { length row.old.tables ≤ 64 }
+    requires light { weight row.old.tables < 1000 }
+{
+    let job = row.tables().pick().ok_or("no job")?;
+    let (job, body) = job.merge(alloc)?.into_parts();
+    let Ok(out) = registry.push(rt, body) else {
+        return Err(Fail::new("no memory for a push"));
+    };
+    row.replace(registry, &job, out);
+    grow(rt, alloc, registry, row, 64)?;
+    Ok(out)
+}
+
+/// The oldest reference is that of a table of level 1 with two rows, and the newest has the number 66.
+fn assert_oldest_is<N: Naming>(
+    rt: &impl Abort,
+    row: &TreeRow<'_, Global, N>,
+    out: TableRef<'_, u64, Global, N>,
+) {
+    let references = row.tables().references();
+    assert_eq!(rt; references.len(), 64);
+    assert!(rt; references[63].is_same(out));
+    assert_eq!(rt; references[0].number(), 66);
+    let table = out.table();
+    assert_eq!(rt;
+        (table.level(), table.is_oldest(), table.table().len()),
+        (1, true, 2)
+    );
+}
+
+fn full_row<N: Naming>(
+    rt: &(impl Abort + Wait),
+    alloc: Global,
+    registry: &Registry<u64, Global>,
+) -> Result<(), Fail>
+    requires here { registry.now ≡ N.shelf 0 }
+{
+    let mut row = row_of::<Global, N, _>(rt, &alloc, registry, 64)?;
+    let first = merged(alloc, &row)?;
+    let second = merged(alloc, &row)?;
+    let out = push_into_full_row(rt, alloc, registry, &mut row)?;
+    assert_row(rt, &row, 64, 65);
+    assert_oldest_is(rt, &row, out);
+    let mut pushes = Pushes::new(Pushes::MOST);
+    for old in [first, second] {
+        let stale = install(rt, registry, &mut row, &mut pushes, old);
+        assert_eq!(rt; stale, Outcome::Stale);
+    }
+    assert_eq!(rt; pushes.count(), 0);
+    assert_row(rt, &row, 64, 65);
+    Ok(())
+}
+
+#[test]
+fn a_full_row_gains_a_table_over_a_run_merged_in_place(rt: HostRuntime) -> Result<(), Fail> {
+    let registry = Registry::new(rt.alloc())?;
+    full_row::<Brand>(&rt, rt.alloc(), &registry)
+}
+
+/// Puts a tombstone at a key of a table, and takes it back.
+fn change_and_take_back<N: Naming>(
+    rt: &impl Abort,
+    row: &mut TreeRow<'_, Global, N>,
+) -> Result<(), Fail> {
+    let two = key(2);
+    let before = row.put(two, None)?;
+    assert_eq!(rt; before, None);
+    assert_eq!(rt; row.find(&two).copied(), None);
+    assert_eq!(rt; row.fresh().len(), 1);
+    row.take_back(&two, before);
+    assert_eq!(rt; value_at(row, 2), Some(2));
+    Ok(())
+}
+
+/// Puts a value at a key of a table twice, and takes the second back.
+fn change_twice<N: Naming>(rt: &impl Abort, row: &mut TreeRow<'_, Global, N>) -> Result<(), Fail> {
+    let three = key(3);
+    let _ = row.put(three, Some(8))?;
+    let known = row.put(three, Some(9))?;
+    assert_eq!(rt; known, Some(Some(8)));
+    row.take_back(&three, known);
+    assert_eq!(rt; value_at(row, 3), Some(8));
+    Ok(())
+}
+
+fn entries_and_copies<N: Naming>(
+    rt: &(impl Abort + Wait),
+    alloc: Global,
+    registry: &Registry<u64, Global>,
+) -> Result<(), Fail>
+    requires here { registry.now ≡ N.shelf 0 }
+{
+    let mut row = row_of::<Global, N, _>(rt, &alloc, registry, 5)?;
+    let kept = row.tables().again();
+    let mut copy = TreeRow::<'_, Global, N>::new(alloc, registry)
+        .tables()
+        .again();
+    assert!(rt; copy.is_empty());
+    copy.copy_from(&kept);
+    change_and_take_back(rt, &mut row)?;
+    change_twice(rt, &mut row)?;
+    assert_eq!(rt; kept.find(&key(3)).copied(), Some(3));
+    assert_eq!(rt; copy.find(&key(3)).copied(), Some(3));
+    assert!(rt; copy.entry(&key(5)).is_none());
+    assert_eq!(rt; registry.blank::<N>().number(), 0);
+    Ok(())
+}
+
+#[test]
+fn entries_are_taken_back_and_copies_stay(rt: HostRuntime) -> Result<(), Fail> {
+    let registry = Registry::new(rt.alloc())?;
+    entries_and_copies::<Brand>(&rt, rt.alloc(), &registry)
+}

@@ -1,0 +1,16 @@
+//! Tests of rows of tables, by public calls alone: each call on its happy path, each refusal, each request for memory
+//! refused in turn, and a merge in another thread. There is no code here beside them.
+#![tactic(auto)]
+
+#[cfg(test)]
+mod fixture;
+#[cfg(test)]
+mod installs;
+#[cfg(test)]
+mod kinds;
+#[cfg(test)]
+mod manifests;
+#[cfg(test)]
+mod refusals;
+#[cfg(test)]
+mod registries;
