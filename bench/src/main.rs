@@ -3,6 +3,7 @@
 
 mod keys;
 mod row;
+mod scan;
 mod table;
 mod tree;
 
@@ -49,6 +50,8 @@ fn run<V: Payload>(workload: &str, run: Run) -> Option<Measured> {
         "table_find_miss_outside" => Some(table::find_miss_outside::<V>(run)),
         "table_seek_up" => Some(table::seek_up::<V>(run)),
         "table_seek_down" => Some(table::seek_down::<V>(run)),
+        "log_push" => Some(table::push_log::<V>(run)),
+        "log_seal" => Some(table::seal_log::<V>(run)),
         "row_find_hit_1" => Some(row::find(run, 1, Wanted::Hit)),
         "row_find_hit_8" => Some(row::find(run, 8, Wanted::Hit)),
         "row_find_hit_20" => Some(row::find(run, 20, Wanted::Hit)),
@@ -60,6 +63,22 @@ fn run<V: Payload>(workload: &str, run: Run) -> Option<Measured> {
         "row_find_miss_outside_20" => Some(row::find(run, 20, Wanted::MissOutside)),
         "row_copy" => Some(row::copy(run)),
         "row_install" => Some(row::install(run)),
+        "scan_first_1" => Some(scan::first::<false>(run, 1)),
+        "scan_first_8" => Some(scan::first::<false>(run, 8)),
+        "scan_first_20" => Some(scan::first::<false>(run, 20)),
+        "scan_all_1" => Some(scan::all::<false>(run, 1)),
+        "scan_all_8" => Some(scan::all::<false>(run, 8)),
+        "scan_all_20" => Some(scan::all::<false>(run, 20)),
+        "scan_union" => Some(scan::union::<false>(run)),
+        "scan_intersection" => Some(scan::intersection::<false>(run)),
+        "scan_first_1_back" => Some(scan::first::<true>(run, 1)),
+        "scan_first_8_back" => Some(scan::first::<true>(run, 8)),
+        "scan_first_20_back" => Some(scan::first::<true>(run, 20)),
+        "scan_all_1_back" => Some(scan::all::<true>(run, 1)),
+        "scan_all_8_back" => Some(scan::all::<true>(run, 8)),
+        "scan_all_20_back" => Some(scan::all::<true>(run, 20)),
+        "scan_union_back" => Some(scan::union::<true>(run)),
+        "scan_intersection_back" => Some(scan::intersection::<true>(run)),
         _ => None,
     }
 }

@@ -1,4 +1,5 @@
-//! Workloads over sorted vectors: the keys in one, their entries in another.
+//! Workloads over sorted vectors: the keys in one, their entries in another; and over the vectors of rows that they are made
+//! from.
 
 use crate::keys::{key_number, mixed, spread_key, Generator, Key, Payload};
 use crate::{measure, Measured, Run};
@@ -8,6 +9,9 @@ use std::collections::BTreeMap;
 const FINDS: u64 = 1_000_000;
 const SEEKS: u64 = 10_000;
 const STEPS: usize = 100;
+
+/// How many rows a log gets before it is cleared.
+const LOGGED: usize = 8_190;
 
 /// Rows sorted by key. Each is a value, or None for a tombstone.
 struct Table<V> {
@@ -96,6 +100,69 @@ pub fn seek_down<V: Payload>(run: Run) -> Measured {
         }
         sum
     })
+}
+
+pub fn push_log<V: Payload>(run: Run) -> Measured {
+    let values = random_values(run);
+    let mut log = Vec::new();
+    let measured = measure(|| {
+        for _ in 0..run.count {
+            fill::<V>(&mut log, &values);
+        }
+        0
+    });
+    Measured {
+        checksum: checksum(&sealed_log(&mut log)),
+        nanoseconds: measured.nanoseconds,
+    }
+}
+
+pub fn seal_log<V: Payload>(run: Run) -> Measured {
+    let values = random_values(run);
+    let mut log = Vec::new();
+    let mut table = Table::with_room(0);
+    let mut whole = Measured {
+        checksum: 0,
+        nanoseconds: 0,
+    };
+    for _ in 0..run.count {
+        fill::<V>(&mut log, &values);
+        let measured = measure(|| {
+            table = sealed_log(&mut log);
+            0
+        });
+        whole.nanoseconds += measured.nanoseconds;
+        whole.checksum = mixed(whole.checksum, checksum(&table));
+    }
+    whole
+}
+
+/// The values of a log's rows.
+fn random_values(run: Run) -> Vec<u64> {
+    let mut generator = Generator::new(run.seed);
+    (0..LOGGED).map(|_| generator.number()).collect()
+}
+
+/// Clears a log, and pushes a row for each value. Their timestamps rise.
+fn fill<V: Payload>(log: &mut Vec<(Key, Option<V>)>, values: &[u64]) {
+    log.clear();
+    for (timestamp, value) in (0..).zip(values) {
+        let key = Key {
+            value: u128::from(*value),
+            timestamp,
+        };
+        log.push((key, Some(V::of(timestamp))));
+    }
+}
+
+/// The rows of a log as a table.
+fn sealed_log<V: Payload>(log: &mut [(Key, Option<V>)]) -> Table<V> {
+    log.sort_by(|row, other| row.0.cmp(&other.0));
+    let mut table = Table::with_room(log.len());
+    for (key, entry) in log {
+        table.push(*key, *entry);
+    }
+    table
 }
 
 impl<V: Copy> Table<V> {
@@ -206,11 +273,15 @@ fn sum_of<'a, V: Payload + 'a>(
 
 /// What was measured, with every row of the table in its checksum.
 fn with_rows<V: Payload>(measured: Measured, table: &Table<V>) -> Measured {
-    let sum = sum_of(0, table.keys.iter().zip(&table.entries));
     Measured {
-        checksum: mixed(measured.checksum, sum),
+        checksum: mixed(measured.checksum, checksum(table)),
         nanoseconds: measured.nanoseconds,
     }
+}
+
+/// A sum over every row, in order.
+fn checksum<V: Payload>(table: &Table<V>) -> u64 {
+    sum_of(0, table.keys.iter().zip(&table.entries))
 }
 
 fn row_number<V: Payload>(key: &Key, entry: Option<&V>) -> u64 {

@@ -1,4 +1,4 @@
-//! The workloads of the benchmark over this repository's trees and tables, timed.
+//! The workloads of the benchmark over this repository's trees, tables and scans, timed.
 //!
 //! `tf_bench WORKLOAD COUNT SEED VALUE_SIZE` runs one and prints its checksum and the nanoseconds that it took, set-up
 //! left out. Without arguments the program lists its workloads. `bench/run` compares them with the same in plain Rust.
@@ -6,6 +6,7 @@
 
 mod keys;
 mod row;
+mod scan;
 mod table;
 mod tree;
 mod workload;

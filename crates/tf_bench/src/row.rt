@@ -11,8 +11,8 @@ use std::marker::Brand;
 use std::sync::Wait;
 use std::time::{Clock, Instant};
 use tf_btree::Tree;
-use tf_manifest::{Body, Naming, Pushes, Registry, RowMerged, Tables};
-use tf_table::seal;
+use tf_manifest::{Body, Naming, Pushes, Registry, RowMerged, RowValue, Tables};
+use tf_table::{Sealed, seal};
 
 /// How many look-ups are measured.
 const FINDS: u64 = 100_000;
@@ -217,6 +217,22 @@ fn add_table<'r, N: Naming, R: AllocGlobal + Wait>(
         put(&mut tree, spread_key(number), Some(number))?;
     }
     let table = seal(rt.alloc(), &tree).map_err(|_| AllocError)?;
+    push_table(rt, registry, row, table)
+}
+
+/// Puts a sealed table in front of the row's others.
+pub(crate) fn push_table<'r, V: RowValue, N: Naming, R: Wait>(
+    rt: &R,
+    registry: &'r Registry<V, Global>,
+    row: &mut Tables<'r, V, Global, N>,
+    table: Sealed<V, Global>,
+) -> Result<(), AllocError>
+    requires here { registry.now ≡ N.shelf V.kind }
+    requires room { length row.old < 64 }
+    requires light { weight row.old < 64 }
+    ensures length { OnOk result (length row.new ≡ length row.old + 1) }
+    ensures weight { OnOk result (weight row.new ≡ weight row.old + 1) }
+{
     let Ok(pushed) = registry.push(rt, Body::new(table, 0, row.is_empty())) else {
         return Err(AllocError);
     };

@@ -1,4 +1,4 @@
-//! Workloads over sealed tables.
+//! Workloads over sealed tables, and over the logs that they are sealed from.
 
 use crate::keys::{Generator, Payload, key_number, mixed, spread_key};
 use crate::tree::put;
@@ -7,7 +7,7 @@ use std::alloc::{AllocError, Global};
 use std::io;
 use std::time::{Clock, Instant};
 use tf_btree::Tree;
-use tf_table::{Key, Sealed, merge, seal};
+use tf_table::{Key, Log, MutableTable, Sealed, merge, seal};
 
 /// How many look-ups are measured.
 const FINDS: u64 = 1_000_000;
@@ -16,6 +16,9 @@ const FINDS: u64 = 1_000_000;
 const SEEKS: u64 = 10_000;
 
 const STEPS: usize = 100;
+
+/// How many rows a log gets before it is cleared.
+const LOGGED: u64 = 8_190;
 
 /// Which keys the tables of a merge have.
 #[derive(Clone, Copy)]
@@ -155,6 +158,74 @@ pub(crate) fn seek_down<V: Payload, R: Clock + AllocGlobal>(
         checksum: sum,
         nanoseconds,
     })
+}
+
+/// Pushes rows of random values into a log, round after round.
+pub(crate) fn push_log<V: Payload, R: Clock + AllocGlobal>(
+    rt: &R,
+    run: Run,
+) -> io::Result<Measured> {
+    let values = random_values(rt, run)?;
+    let mut log = Log::<V, Global>::new_in(rt.alloc());
+    let start = Instant::now(rt)?;
+    for _round in 0..run.count {
+        fill(&mut log, &values)?;
+    }
+    let nanoseconds = start.elapsed(rt)?.as_nanos();
+    let table = log.seal(rt.alloc()).map_err(|_| AllocError)?;
+    Ok(Measured {
+        checksum: checksum(&table),
+        nanoseconds,
+    })
+}
+
+/// Seals a log of random values, round after round. Its filling isn't measured.
+pub(crate) fn seal_log<V: Payload, R: Clock + AllocGlobal>(
+    rt: &R,
+    run: Run,
+) -> io::Result<Measured> {
+    let values = random_values(rt, run)?;
+    let mut log = Log::<V, Global>::new_in(rt.alloc());
+    let mut sum = 0;
+    let mut nanoseconds = 0u128;
+    for _round in 0..run.count {
+        fill(&mut log, &values)?;
+        let start = Instant::now(rt)?;
+        let table = log.seal(rt.alloc()).map_err(|_| AllocError)?;
+        nanoseconds = nanoseconds.saturating_add(start.elapsed(rt)?.as_nanos());
+        sum = mixed(sum, checksum(&table));
+    }
+    Ok(Measured {
+        checksum: sum,
+        nanoseconds,
+    })
+}
+
+/// The values of a log's rows.
+fn random_values<R: AllocGlobal>(rt: &R, run: Run) -> Result<Vec<u64>, AllocError> {
+    let mut generator = Generator::new(run.seed);
+    let mut values = Vec::new(rt.alloc());
+    for _row in 0..LOGGED {
+        values.push(generator.number())?;
+    }
+    Ok(values)
+}
+
+/// Clears a log, and pushes a row for each value. Their timestamps rise.
+fn fill<V: Payload>(log: &mut Log<V, Global>, values: &[u64]) -> Result<(), AllocError> {
+    log.clear();
+    for (place, value) in values.iter().enumerate() {
+        let timestamp = place as u64;
+        let key = Key {
+            value: u128::from(*value),
+            timestamp,
+        };
+        match log.put(key, Some(V::of(timestamp))) {
+            Ok(_) => {}
+            Err(_) => return Err(AllocError),
+        }
+    }
+    Ok(())
 }
 
 impl Wanted {

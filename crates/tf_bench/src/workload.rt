@@ -1,11 +1,13 @@
 //! The workloads by name.
 
 use crate::keys::{Large, Payload, Small};
+use crate::scan::Scanned;
 use crate::table::{Keys, Wanted};
-use crate::{row, table, tree};
+use crate::{row, scan, table, tree};
 use std::io;
 use std::sync::Wait;
 use std::time::Clock;
+use tf_scan::Direction;
 
 /// How often a workload does what it does, and the seed of its keys.
 #[derive(Clone, Copy)]
@@ -45,6 +47,8 @@ pub(crate) enum Workload {
     TableFindMissOutside,
     TableSeekUp,
     TableSeekDown,
+    LogPush,
+    LogSeal,
     RowFindHit1,
     RowFindHit8,
     RowFindHit20,
@@ -56,11 +60,27 @@ pub(crate) enum Workload {
     RowFindMissOutside20,
     RowCopy,
     RowInstall,
+    ScanFirst1,
+    ScanFirst8,
+    ScanFirst20,
+    ScanAll1,
+    ScanAll8,
+    ScanAll20,
+    ScanUnion,
+    ScanIntersection,
+    ScanFirst1Back,
+    ScanFirst8Back,
+    ScanFirst20Back,
+    ScanAll1Back,
+    ScanAll8Back,
+    ScanAll20Back,
+    ScanUnionBack,
+    ScanIntersectionBack,
 }
 
 impl Workload {
     /// Every workload.
-    pub(crate) const ALL: [Workload; 32] = [
+    pub(crate) const ALL: [Workload; 50] = [
         Workload::TreeInsertRising,
         Workload::TreeInsertRandom,
         Workload::TreeRounds,
@@ -82,6 +102,8 @@ impl Workload {
         Workload::TableFindMissOutside,
         Workload::TableSeekUp,
         Workload::TableSeekDown,
+        Workload::LogPush,
+        Workload::LogSeal,
         Workload::RowFindHit1,
         Workload::RowFindHit8,
         Workload::RowFindHit20,
@@ -93,6 +115,22 @@ impl Workload {
         Workload::RowFindMissOutside20,
         Workload::RowCopy,
         Workload::RowInstall,
+        Workload::ScanFirst1,
+        Workload::ScanFirst8,
+        Workload::ScanFirst20,
+        Workload::ScanAll1,
+        Workload::ScanAll8,
+        Workload::ScanAll20,
+        Workload::ScanUnion,
+        Workload::ScanIntersection,
+        Workload::ScanFirst1Back,
+        Workload::ScanFirst8Back,
+        Workload::ScanFirst20Back,
+        Workload::ScanAll1Back,
+        Workload::ScanAll8Back,
+        Workload::ScanAll20Back,
+        Workload::ScanUnionBack,
+        Workload::ScanIntersectionBack,
     ];
 
     /// The name by which it is asked for.
@@ -119,6 +157,8 @@ impl Workload {
             Workload::TableFindMissOutside => "table_find_miss_outside",
             Workload::TableSeekUp => "table_seek_up",
             Workload::TableSeekDown => "table_seek_down",
+            Workload::LogPush => "log_push",
+            Workload::LogSeal => "log_seal",
             Workload::RowFindHit1 => "row_find_hit_1",
             Workload::RowFindHit8 => "row_find_hit_8",
             Workload::RowFindHit20 => "row_find_hit_20",
@@ -130,6 +170,22 @@ impl Workload {
             Workload::RowFindMissOutside20 => "row_find_miss_outside_20",
             Workload::RowCopy => "row_copy",
             Workload::RowInstall => "row_install",
+            Workload::ScanFirst1 => "scan_first_1",
+            Workload::ScanFirst8 => "scan_first_8",
+            Workload::ScanFirst20 => "scan_first_20",
+            Workload::ScanAll1 => "scan_all_1",
+            Workload::ScanAll8 => "scan_all_8",
+            Workload::ScanAll20 => "scan_all_20",
+            Workload::ScanUnion => "scan_union",
+            Workload::ScanIntersection => "scan_intersection",
+            Workload::ScanFirst1Back => "scan_first_1_back",
+            Workload::ScanFirst8Back => "scan_first_8_back",
+            Workload::ScanFirst20Back => "scan_first_20_back",
+            Workload::ScanAll1Back => "scan_all_1_back",
+            Workload::ScanAll8Back => "scan_all_8_back",
+            Workload::ScanAll20Back => "scan_all_20_back",
+            Workload::ScanUnionBack => "scan_union_back",
+            Workload::ScanIntersectionBack => "scan_intersection_back",
         }
     }
 
@@ -215,6 +271,8 @@ impl Workload {
             Workload::TableFindMissOutside => table::find::<V, R>(rt, run, Wanted::MissOutside),
             Workload::TableSeekUp => table::seek_up::<V, R>(rt, run),
             Workload::TableSeekDown => table::seek_down::<V, R>(rt, run),
+            Workload::LogPush => table::push_log::<V, R>(rt, run),
+            Workload::LogSeal => table::seal_log::<V, R>(rt, run),
             Workload::RowFindHit1 => row::find(rt, run, 1, row::Wanted::Hit),
             Workload::RowFindHit8 => row::find(rt, run, 8, row::Wanted::Hit),
             Workload::RowFindHit20 => row::find(rt, run, 20, row::Wanted::Hit),
@@ -226,6 +284,38 @@ impl Workload {
             Workload::RowFindMissOutside20 => row::find(rt, run, 20, row::Wanted::MissOutside),
             Workload::RowCopy => row::copy(rt, run),
             Workload::RowInstall => row::install(rt, run),
+            Workload::ScanFirst1 => scan::read(rt, run, 1, Scanned::First, Direction::Rising),
+            Workload::ScanFirst8 => scan::read(rt, run, 8, Scanned::First, Direction::Rising),
+            Workload::ScanFirst20 => scan::read(rt, run, 20, Scanned::First, Direction::Rising),
+            Workload::ScanAll1 => scan::read(rt, run, 1, Scanned::All, Direction::Rising),
+            Workload::ScanAll8 => scan::read(rt, run, 8, Scanned::All, Direction::Rising),
+            Workload::ScanAll20 => scan::read(rt, run, 20, Scanned::All, Direction::Rising),
+            Workload::ScanUnion => scan::read_join(rt, run, Scanned::Union, Direction::Rising),
+            Workload::ScanIntersection => scan::read_join(
+                rt,
+                run,
+                Scanned::Intersection,
+                Direction::Rising,
+            ),
+            Workload::ScanFirst1Back => scan::read(rt, run, 1, Scanned::First, Direction::Falling),
+            Workload::ScanFirst8Back => scan::read(rt, run, 8, Scanned::First, Direction::Falling),
+            Workload::ScanFirst20Back => scan::read(
+                rt,
+                run,
+                20,
+                Scanned::First,
+                Direction::Falling,
+            ),
+            Workload::ScanAll1Back => scan::read(rt, run, 1, Scanned::All, Direction::Falling),
+            Workload::ScanAll8Back => scan::read(rt, run, 8, Scanned::All, Direction::Falling),
+            Workload::ScanAll20Back => scan::read(rt, run, 20, Scanned::All, Direction::Falling),
+            Workload::ScanUnionBack => scan::read_join(rt, run, Scanned::Union, Direction::Falling),
+            Workload::ScanIntersectionBack => scan::read_join(
+                rt,
+                run,
+                Scanned::Intersection,
+                Direction::Falling,
+            ),
         }
     }
 }

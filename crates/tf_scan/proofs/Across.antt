@@ -19,12 +19,12 @@ use Rattle.tf_scan.specs.declared.direction.Direction.{Direction}
 use Rattle.tf_scan.specs.declared.place.Place.{Place}
 use Rattle.tf_scan.specs.Order.{is_before, those_from}
 use Rattle.tf_scan.specs.Prefix.{has_timestamp, prefix_of}
-use Rattle.tf_scan.specs.Place.{rows_left, lists_left, nearest_in, nearest_of, nearer, IsFrom, IsPlace, Keeps, steps_left, Takes, Seeks}
+use Rattle.tf_scan.specs.Place.{rows_left, lists_left, nearest_in, nearest_of, nearer, is_past, IsFrom, IsPlace, Keeps, steps_left, Takes, Seeks}
 use Rattle.tf_scan.proofs.Order.{before-self, before-trans, before-past, not-before-trans}
 use Rattle.tf_scan.proofs.Members.{false_true}
 use Rattle.tf_scan.proofs.Prefixes.{none-prefix, seek-prefix, pass-prefix, first-prefix}
 use Rattle.tf_scan.proofs.Walked.{IsWalked, walked-next}
-use Rattle.tf_scan.proofs.Taking.{is_past, place-first}
+use Rattle.tf_scan.proofs.Taking.{place-first}
 
 -- what holds of each element holds of the one at a place
 pub each-at : {X : Type 0} (P : X → Type 0) (xs : List X) (i : ℕ) (x : X) → AllByRecursion P xs → i < length xs → get_or xs i x ≡ x → P x
@@ -37,7 +37,7 @@ first_some-assoc (Some x) y z = refl
 first_some-assoc None y z = refl
 
 module _ (d : Direction) where
-  nearer-past : (u : ℕ) (a b : Option ℕ) → is_past d u (nearer d a b) ≡ true → (is_past d u a ≡ true) × (is_past d u b ≡ true)
+  pub nearer-past : (u : ℕ) (a b : Option ℕ) → is_past d u (nearer d a b) ≡ true → (is_past d u a ≡ true) × (is_past d u b ≡ true)
   nearer-past u None b e = (refl, e)
   nearer-past u (Some x) None e = (e, refl)
   nearer-past u (Some x) (Some y) e = step (is_before d y x) refl e

@@ -10,3 +10,4 @@ pub mod Prefixes
 pub mod Walked
 pub mod Taking
 pub mod Across
+pub mod Turns

@@ -28,7 +28,7 @@ use Rattle.tf_scan.specs.declared.place.Place.{Place}
 use Rattle.tf_scan.specs.declared.place.Place.TheVariants.{Closed, Open, End}
 use Rattle.tf_scan.specs.Order.{is_before, AllBehind}
 use Rattle.tf_scan.specs.Sets.{is_among}
-use Rattle.tf_scan.specs.Place.{rows_within, rows_left, first_of, nearest_in, is_within, IsFrom, IsAt, IsHead, IsPlace, IsTaken, rows_behind, Keeps, steps_left, IsSearched, HasRows, Opens, Takes, Seeks}
+use Rattle.tf_scan.specs.Place.{rows_within, rows_left, first_of, nearest_in, is_past, is_within, IsFrom, IsAt, IsHead, IsPlace, IsTaken, rows_behind, Keeps, steps_left, IsSearched, HasRows, Opens, Takes, Seeks}
 use Rattle.tf_scan.proofs.Order.{before-self, before-asym, before-total, before-past}
 use Rattle.tf_scan.proofs.Members.{false_true, among-self, behind-among}
 use Rattle.tf_scan.proofs.Entries.{below_is, entry-other, entry-here, entry-absent, entry-from, entry-upto, entry-within, both}
@@ -175,11 +175,6 @@ is_at-within {V} v span rows rising =
 
 -- ---- places
 
--- whether the timestamp comes before the nearest one
-abbrev pub is_past : Direction → ℕ → Option ℕ → Bool
-is_past d u None = true
-is_past d u (Some n) = is_before d u n
-
 module _ (d : Direction) where
   outside : (span : Span) (u : ℕ) → is_before d u (first_of d span) ≡ true → is_within (Some span) u ≡ false
   outside span u b = by d b
@@ -201,7 +196,7 @@ module _ (d : Direction) where
       step true i = refl
       step false i = absurd (e (ap Some (before-total d n t f i)))
 
-not-false : (b : Bool) → not b ≡ false → b ≡ true
+pub not-false : (b : Bool) → not b ≡ false → b ≡ true
 not-false true e = refl
 not-false false e = sym e
 
@@ -214,7 +209,7 @@ pub is_other : (o p : Option ℕ) (t : ℕ) (b : Bool) → o ≡ p → b ≡ not
 is_other o p t b e f g m = false_true (sym (ap not (eq-eqb t t refl)) ∙ ap (λ q. not (option_eq nat_eq q (Some t))) (sym m ∙ sym e) ∙ sym f ∙ g)
 
 module _ {V : Type 0} (v : ℕ) where
-  keeps-none : (stays : ℕ → Bool) (old new : List (Key × Option V)) → ((u : ℕ) → entry_at (key_of v u) new ≡ entry_at (key_of v u) old) → ((u : ℕ) → stays u ≡ false → entry_at (key_of v u) old ≡ None) → Keeps v stays old new
+  pub keeps-none : (stays : ℕ → Bool) (old new : List (Key × Option V)) → ((u : ℕ) → entry_at (key_of v u) new ≡ entry_at (key_of v u) old) → ((u : ℕ) → stays u ≡ false → entry_at (key_of v u) old ≡ None) → Keeps v stays old new
   keeps-none stays old new same none u = step (stays u) refl
     where
       step : (b : Bool) → stays u ≡ b → entry_at (key_of v u) new ≡ cond b (entry_at (key_of v u) old) None

@@ -6,3 +6,4 @@ pub mod Node
 pub mod Falls
 pub mod Prefix
 pub mod Place
+pub mod Turn

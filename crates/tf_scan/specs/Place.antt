@@ -1,5 +1,5 @@
 -- What is left of each table in a prefix, and what holds of it.
-use Rattle.std.specs.Prelude.{◌≡◌, ℕ, suc, ◌<◌, ◌≤◌, Bool, false, not, ◌&&◌, if◌then◌else◌, nat_eq, nat_lt, List, [], ◌∷◌, ◌++◌, length, map, Option, Some, None}
+use Rattle.std.specs.Prelude.{◌≡◌, ℕ, suc, ◌<◌, ◌≤◌, Bool, true, false, not, ◌&&◌, if◌then◌else◌, nat_eq, nat_lt, List, [], ◌∷◌, ◌++◌, length, map, Option, Some, None}
 use Rattle.std.specs.List.{AllByRecursion}
 use Rattle.tf_btree.specs.Rows.{IsRising, rows_from, rows_upto}
 use Rattle.tf_table.specs.declared.key.Key.{Key}
@@ -55,6 +55,11 @@ nearest_of d (p ∷ ps) = nearer d (nearest_in d p) (nearest_of d ps)
 abbrev pub IsFrom : Direction → ℕ → Option ℕ → Type 0
 IsFrom d t None = Unit {0}
 IsFrom d t (Some n) = is_before d n t ≡ false
+
+-- whether the timestamp comes before the nearest one
+abbrev pub is_past : Direction → ℕ → Option ℕ → Bool
+is_past d u None = true
+is_past d u (Some n) = is_before d u n
 
 -- whether the timestamp lies in the span
 abbrev pub is_within : Option Span → ℕ → Bool

@@ -13,6 +13,7 @@ mod prefix;
 mod scan;
 #[cfg(test)]
 mod tests;
+mod turn;
 
 pub use direction::Direction;
 pub use leaf::Leaf;

@@ -6,27 +6,32 @@ ghost use Rattle.tf_table.specs.Content.{entry_of};
 ghost use Rattle.tf_manifest.specs.Rows.{key_of};
 ghost use Rattle.tf_scan.specs.Order.{those_from};
 ghost use Rattle.tf_scan.specs.Prefix.{prefix_of};
-ghost use Rattle.tf_scan.specs.Place.{lists_left, nearest_in, nearest_of, nearer, IsFrom, IsPlace, Takes, Seeks};
+ghost use Rattle.tf_scan.specs.Place.{lists_left, nearest_in, nearest_of, IsFrom, IsPlace, Takes, Seeks};
+ghost use Rattle.tf_scan.specs.Turn.{IsTurn};
 
 use crate::Direction;
 use crate::place::Place;
+use crate::turn::Turn;
 use std::alloc::Allocator;
 
 /// Takes out the first timestamp at which the tables' content has the value.
 ///
-/// It goes over the places twice for each timestamp that a table has.
+/// Where one place alone has the next timestamp it looks at that one. Else it goes over all places twice.
 pub(crate) fn next<V, A: Allocator>(
     direction: Direction,
     value: u128,
     places: &mut [Place<'_, V, A>],
+    turn: &mut Turn,
 ) -> Option<u64>
-    requires { AllByRecursion (IsPlace direction value) places.old }
+    requires right { AllByRecursion (IsPlace direction value) places.old }
+    requires turn { IsTurn direction turn.old places.old }
     ensures right { AllByRecursion (IsPlace direction value) places.new }
+    ensures turn { IsTurn direction turn.new places.new }
     ensures first { result ≡ slice_get (prefix_of direction value (lists_left value places.old)) 0 }
     ensures others { prefix_of direction value (lists_left value places.new) ≡ drop 1 (prefix_of direction value (lists_left value places.old)) }
 {
-    while let Some(timestamp) = nearest(direction, places) {
-        let entry = take(direction, value, timestamp, places);
+    while let Some(timestamp) = turn.nearest(direction, places) {
+        let entry = take(direction, value, timestamp, places, turn);
         if entry.flatten().is_some() {
             return Some(timestamp);
         }
@@ -35,7 +40,30 @@ pub(crate) fn next<V, A: Allocator>(
 }
 
 /// Takes out the timestamps before this one.
+///
+/// Where one place alone has timestamps before it, it looks at that one. Else it goes over all places twice.
 pub(crate) fn seek<V, A: Allocator>(
+    direction: Direction,
+    value: u128,
+    places: &mut [Place<'_, V, A>],
+    turn: &mut Turn,
+    timestamp: u64,
+)
+    requires right { AllByRecursion (IsPlace direction value) places.old }
+    requires turn { IsTurn direction turn.old places.old }
+    ensures sought { AllZip (Seeks direction value timestamp) places.old places.new }
+    ensures turn { IsTurn direction turn.new places.new }
+{
+    if turn.has(direction, timestamp) && turn.place < places.len() {
+        places[turn.place].seek(direction, value, timestamp);
+        return;
+    }
+    seek_all(direction, value, places, timestamp);
+    *turn = Turn::of(direction, places);
+}
+
+/// Takes the timestamps before this one out of each place.
+fn seek_all<V, A: Allocator>(
     direction: Direction,
     value: u128,
     places: &mut [Place<'_, V, A>],
@@ -49,34 +77,32 @@ pub(crate) fn seek<V, A: Allocator>(
     }
 }
 
-/// The nearest timestamp of all places.
-fn nearest<V, A: Allocator>(direction: Direction, places: &[Place<'_, V, A>]) -> Option<u64>
-    ensures { result ≡ nearest_of direction places.now }
+/// Takes the rows at the nearest timestamp out of all places, and tells the entry of the newest table that has one.
+fn take<'r, V, A: Allocator>(
+    direction: Direction,
+    value: u128,
+    timestamp: u64,
+    places: &mut [Place<'r, V, A>],
+    turn: &mut Turn,
+) -> Option<Option<&'r V>>
+    requires right { AllByRecursion (IsPlace direction value) places.old }
+    requires turn { IsTurn direction turn.old places.old }
+    requires nearest { Some timestamp ≡ nearest_of direction places.old }
+    ensures entry { option_map option_copied result ≡ entry_of (key_of value timestamp) (lists_left value places.old) }
+    ensures taken { AllZip (Takes direction value timestamp) places.old places.new }
+    ensures turn { IsTurn direction turn.new places.new }
 {
-    let mut found = None;
-    let mut rest = places.len();
-    while rest > 0 {
-        rest -= 1;
-        found = nearer_of(direction, places[rest].nearest(direction), found);
+    if turn.has(direction, timestamp) && turn.place < places.len() {
+        return places[turn.place].take(direction, value, timestamp);
     }
-    found
-}
-
-/// Of two timestamps the one that comes first.
-#[inline]
-fn nearer_of(direction: Direction, first: Option<u64>, second: Option<u64>) -> Option<u64>
-    ensures { result ≡ nearer direction first second }
-{
-    match (first, second) {
-        (None, second) => second,
-        (first, None) => first,
-        (Some(t), Some(u)) => Some(if direction.is_before(u, t) { u } else { t }),
-    }
+    let entry = take_all(direction, value, timestamp, places);
+    *turn = Turn::of(direction, places);
+    entry
 }
 
 /// Takes the rows at this timestamp out of all places, and tells the entry of the newest table that has one. No row comes
 /// before it.
-fn take<'r, V, A: Allocator>(
+fn take_all<'r, V, A: Allocator>(
     direction: Direction,
     value: u128,
     timestamp: u64,

@@ -6,6 +6,7 @@ ghost use Rattle.tf_scan.specs.Order.{IsInOrder};
 ghost use Rattle.tf_scan.specs.Sets.{is_among};
 
 use crate::place::Place;
+use crate::turn::Turn;
 use crate::{Direction, Leaf, places};
 use arrayvec::ArrayVec;
 use std::alloc::Allocator;
@@ -23,6 +24,7 @@ pub struct Prefix<'r, V, A: Allocator> {
     direction: Direction,
     value: u128,
     pub(crate) places: ArrayVec<Place<'r, V, A>, 64>,
+    turn: Turn,
 }
 
 impl<'r, V, A: Allocator> Model for Prefix<'r, V, A> {
@@ -33,10 +35,11 @@ impl<'r, V, A: Allocator> Model for Prefix<'r, V, A> {
 
     ghost use Rattle.tf_scan.specs.Prefix.{prefix_of};
     ghost use Rattle.tf_scan.specs.Place.{lists_left, IsPlace};
+    ghost use Rattle.tf_scan.specs.Turn.{IsTurn};
 
     ghost view = { λ p. record { direction = p.direction; left = prefix_of p.direction p.value (lists_left p.value p.places.items) } };
 
-    ghost invariant = { λ p. AllByRecursion (IsPlace p.direction p.value) p.places.items };
+    ghost invariant = { λ p. AllByRecursion (IsPlace p.direction p.value) p.places.items × IsTurn p.direction p.turn p.places.items };
 }
 
 impl<'r, V: RowValue, A: Allocator> Prefix<'r, V, A> {
@@ -55,10 +58,12 @@ impl<'r, V: RowValue, A: Allocator> Prefix<'r, V, A> {
         for reference in tables.references() {
             places.push(Place::new(reference.table().table()));
         }
+        let turn = Turn::of(direction, places.as_slice());
         Prefix {
             direction,
             value,
             places,
+            turn,
         }
     }
 }
@@ -72,19 +77,27 @@ impl<'r, V, A: Allocator> Leaf for Prefix<'r, V, A> {
         self.direction
     }
 
-    /// It goes over the places once or twice for each timestamp that a table has. Of the tables it reads those alone
-    /// whose nearest timestamp this is.
+    /// As long as the timestamps of one table come before those of all others, it looks at that one's place alone. Else
+    /// it goes over the places twice for each timestamp that a table has. Of the tables it reads those alone whose
+    /// nearest timestamp this is.
     fn next(&mut self) -> Option<u64> {
-        places::next(self.direction, self.value, self.places.as_mut_slice())
+        places::next(
+            self.direction,
+            self.value,
+            self.places.as_mut_slice(),
+            &mut self.turn,
+        )
     }
 
-    /// It goes over the places once. A table that wasn't searched yet isn't read, and in each other one the number of
-    /// keys that it looks at grows with the logarithm of the rows that it passes over.
+    /// It looks at one place where no other has timestamps before this one, and else goes over the places twice. A table
+    /// that wasn't searched yet isn't read, and in each other one the number of keys that it looks at grows with the
+    /// logarithm of the rows that it passes over.
     fn seek(&mut self, timestamp: u64) {
         places::seek(
             self.direction,
             self.value,
             self.places.as_mut_slice(),
+            &mut self.turn,
             timestamp,
         );
     }

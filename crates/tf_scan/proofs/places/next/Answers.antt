@@ -2,12 +2,9 @@ use Rattle.std.proofs.Common.{◌≡◌, ◌∷◌, drop, ap, sym, ◌∙◌}
 use Rattle.std.specs.Prelude.{slice_get}
 use Rattle.tf_scan.specs.Place.{lists_left}
 use Rattle.tf_scan.specs.Prefix.{prefix_of}
-use Rattle.tf_scan.proofs.Across.{from-all, takes-right, takes-fewer, end-prefix, taken-first, taken-pass, has-entry}
+use Rattle.tf_scan.proofs.Across.{takes-right, takes-fewer, end-prefix, taken-first, taken-pass, has-entry}
 use Rattle.tf_scan.proofs.places.next.Given as given
 use Rattle.tf_scan.proofs.places.next.Goals as goal
-
-pub take-entry-requires-clause-nearest : goal.take-entry-requires-clause-nearest
-take-entry-requires-clause-nearest g c = from-all c.args.direction c.args.value c.in-Some.timestamp c.loop-timestamp.places c.in-Some.ensures
 
 pub returns-then-is_some-clause-right : goal.returns-then-is_some-clause-right
 returns-then-is_some-clause-right g c = takes-right c.args.direction c.args.value c.in-Some.timestamp c.loop-timestamp.places c.take-entry.new.places c.take-entry.ensures.taken
@@ -32,6 +29,7 @@ loop-timestamp-preserved g c =
     let has = has-entry c.args.value c.in-Some.timestamp c.loop-timestamp.places c.take-entry.result c.flatten.result c.is_some.result c.take-entry.ensures.entry c.flatten.ensures c.is_some.ensures ∙ c.if-is_some.false in
     record {
       right = takes-right c.args.direction c.args.value c.in-Some.timestamp c.loop-timestamp.places c.take-entry.new.places c.take-entry.ensures.taken;
+      turn = c.take-entry.ensures.turn;
       same = taken-pass c.args.direction c.args.value c.in-Some.timestamp c.loop-timestamp.places c.take-entry.new.places c.take-entry.ensures.taken has ∙ c.loop-timestamp.invariant.same;
     }
 

@@ -1,27 +1,32 @@
-use Rattle.std.proofs.Common.{◌≡◌, arith, ap, cond, sym, ◌∙◌, subst}
+use Rattle.std.proofs.Common.{◌≡◌, ◌∙◌, ap, sym, subst, arith, true}
 use Rattle.tf_table.specs.Content.{entry_at}
 use Rattle.tf_manifest.specs.Rows.{key_of}
-use Rattle.tf_scan.specs.Place.{rows_left, Takes}
-use Rattle.tf_scan.proofs.Walked.{walked-more}
-use Rattle.tf_scan.proofs.Across.{entry-more}
-use Rattle.tf_scan.proofs.places.take.Goals.{then-is_none, else-is_none}
+use Rattle.tf_scan.specs.Place.{rows_left, nearest_in, is_past, IsFrom, Takes}
+use Rattle.tf_scan.proofs.Across.{each-at, from-all}
+use Rattle.tf_scan.proofs.Turns.{others-stay, takes-one, entry-one}
 use Rattle.tf_scan.proofs.places.take.Goals as goal
 
-pub loop-place-preserved : goal.loop-place-preserved
-loop-place-preserved g c =
-    let d = c.args.direction in
-    let v = c.args.value in
-    let t = c.args.timestamp in
-    let i = c.loop-place.place-index in
-    let p = c.place-item.result in
-    let walked = c.loop-place.invariant.walked in
-    let newest : c.if-is_none.newest ≡ cond c.is_none.result c.take-entry.result c.loop-place.newest = elim c.if-is_none.branch [
-      | then-is_none w ↦ w.newest-is ∙ sym (ap (λ b. cond b c.take-entry.result c.loop-place.newest) w.if-is_none.true)
-      | else-is_none w ↦ w.newest-is ∙ sym (ap (λ b. cond b c.take-entry.result c.loop-place.newest) w.if-is_none.false)
-    ] in
-    record {
-      walked = walked-more (Takes d v t) i c.args.places.now c.loop-place.places p c.take-entry.new.self walked (omega arith) c.place-item.is
-          (subst (λ q. Takes d v t q c.take-entry.new.self) (sym c.place-item.is) c.take-entry.ensures.taken);
-      newest = entry-more d v t c.args.places.now c.loop-place.places i p walked (omega arith) c.place-item.is c.loop-place.newest c.take-entry.result c.if-is_none.newest c.is_none.result
-          c.is_none.ensures newest c.loop-place.invariant.newest (c.take-entry.ensures.entry ∙ ap (λ q. entry_at (key_of v t) (rows_left v q)) (sym c.place-item.is));
-    }
+pub take-requires-clause-nearest : goal.take-requires-clause-nearest
+take-requires-clause-nearest g c =
+    let all = from-all c.args.direction c.args.value c.args.timestamp c.args.places.now c.requires.nearest in
+    subst (λ p. IsFrom c.args.direction c.args.timestamp (nearest_in c.args.direction p)) c.index-places-turn.is
+    (each-at (λ p. IsFrom c.args.direction c.args.timestamp (nearest_in c.args.direction p)) c.args.places.now c.args.turn.now.place c.index-places-turn.result all (omega arith) (sym c.index-places-turn.is))
+
+pub returns-then-turn-places-clause-entry : goal.returns-then-turn-places-clause-entry
+returns-then-turn-places-clause-entry g c =
+    let past = subst (λ n. is_past c.args.direction c.args.timestamp n ≡ true) c.requires.turn (sym c.has.ensures ∙ c.if-has.true) in
+    c.take.ensures.entry
+    ∙ ap (λ p. entry_at (key_of c.args.value c.args.timestamp) (rows_left c.args.value p)) (sym c.index-places-turn.is)
+    ∙ sym (entry-one c.args.direction c.args.value c.args.timestamp c.args.turn.now.place c.args.places.now c.index-places-turn.result c.requires.right past (omega arith) (sym c.index-places-turn.is))
+
+pub returns-then-turn-places-clause-taken : goal.returns-then-turn-places-clause-taken
+returns-then-turn-places-clause-taken g c =
+    let past = subst (λ n. is_past c.args.direction c.args.timestamp n ≡ true) c.requires.turn (sym c.has.ensures ∙ c.if-has.true) in
+    takes-one c.args.direction c.args.value c.args.timestamp c.args.turn.now.place c.args.places.now c.index-places-turn.result c.take.new.self c.requires.right past (omega arith) (sym c.index-places-turn.is)
+    (subst (λ p. Takes c.args.direction c.args.value c.args.timestamp p c.take.new.self) (sym c.index-places-turn.is) c.take.ensures.taken)
+
+pub returns-then-turn-places-clause-turn : goal.returns-then-turn-places-clause-turn
+returns-then-turn-places-clause-turn g c = c.requires.turn ∙ sym (others-stay c.args.direction c.args.turn.now.place c.args.places.now c.take.new.self)
+
+pub take_all-entry-requires-clause-nearest : goal.take_all-entry-requires-clause-nearest
+take_all-entry-requires-clause-nearest g c = from-all c.args.direction c.args.value c.args.timestamp c.args.places.now c.requires.nearest

@@ -39,7 +39,7 @@ loop-reference-preserved g c =
     }
 
 -- the places say of each key what the tables say
-all : (g : given.Over) (c : goal.After-loop-reference g) → (t : ℕ) → entry_of (key_of c.args.value t) (lists_left c.args.value c.loop-reference.places.items) ≡ entry_of (key_of c.args.value t) (lists_of c.args.tables.now)
+all : (g : given.Over) (c : goal.After-of-turn g) → (t : ℕ) → entry_of (key_of c.args.value t) (lists_left c.args.value c.loop-reference.places.items) ≡ entry_of (key_of c.args.value t) (lists_of c.args.tables.now)
 all g c t =
     let key = key_of c.args.value t in
     let refs = c.references-reference-items.result.now in

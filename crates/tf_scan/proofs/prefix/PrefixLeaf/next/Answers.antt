@@ -8,7 +8,7 @@ use Rattle.tf_scan.proofs.prefix.PrefixLeaf.next.Goals as goal
 
 pub invariant_of-self : goal.invariant_of-self
 invariant_of-self g c =
-    rw (refilled c.self.inside.places.items c.next.new.places (omega (arith, c.next.auto.places, ap length c.as_mut_slice.ensures.value))) c.next.ensures.right
+    rw (refilled c.self.inside.places.items c.next.new.places (omega (arith, c.next.auto.places, ap length c.as_mut_slice.ensures.value))) (c.next.ensures.right, c.next.ensures.turn)
 
 pub returns-clause-first : goal.returns-clause-first
 returns-clause-first g c =

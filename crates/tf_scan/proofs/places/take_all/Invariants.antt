@@ -4,7 +4,7 @@ use Rattle.tf_table.specs.Content.{entry_of}
 use Rattle.tf_manifest.specs.Rows.{key_of}
 use Rattle.tf_scan.specs.Place.{lists_left, Takes}
 use Rattle.tf_scan.proofs.Walked.{IsWalked}
-use Rattle.tf_scan.proofs.places.take.Given as goal
+use Rattle.tf_scan.proofs.places.take_all.Given as goal
 
 abbrev pub invariant-loop-place : goal.invariant-loop-place
 invariant-loop-place g l = record {
