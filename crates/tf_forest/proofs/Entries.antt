@@ -34,7 +34,9 @@ use Rattle.tf_manifest.specs.declared.value.State.{State}
 use Rattle.tf_manifest.specs.declared.value.Value.TheVariants as value
 use Rattle.tf_manifest.specs.Rows.{history_pairs, key_of, rows_of, state_of}
 use Rattle.tf_manifest.proofs.Members.{all_has}
-use Rattle.tf_forest.specs.Edits.{Edit, Found, Party, account_edits, edits, expired_edits, expiry_edit, expiry_edits, failed_edits, found_for_expiry, found_for_transfer, history_edit, history_edits, new_state, party_of, present_party, put, settled_status, state_after, state_edit, state_edits, state_moved, state_pending, state_settled, status_edit, status_edits, transfer_edits}
+use Rattle.tf_forest.specs.declared.found.Found.{Found}
+use Rattle.tf_forest.specs.declared.found.Party.{Party}
+use Rattle.tf_forest.specs.Edits.{Edit, account_edits, edits, expired_edits, expiry_edit, expiry_edits, failed_edits, found_for_expiry, found_for_transfer, history_edit, history_edits, new_state, party_of, present_party, put, settled_status, state_after, state_edit, state_edits, state_moved, state_pending, state_settled, status_edit, status_edits, transfer_edits}
 use Rattle.tf_forest.proofs.Changes.{IsChange, put_pair}
 use Rattle.tf_forest.proofs.Closers.{closers_kept, closes_account}
 use Rattle.tf_forest.proofs.Grown.{account_row, account_row_stays, expiries_grow, expiries_stay, ids_fail, ids_grow, ids_stay, transfer_row, transfer_row_stays}

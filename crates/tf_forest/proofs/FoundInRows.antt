@@ -9,7 +9,7 @@ use Rattle.tf_records.specs.declared.transfer.Transfer.{Transfer}
 use Rattle.tf_journal.specs.declared.entry.Entry.{Entry}
 use Rattle.tf_journal.specs.declared.entry.Entry.TheVariants as entry
 use Rattle.tf_journal.specs.declared.id_use.IdUse.TheVariants.{Free, Failed, Stored}
-use Rattle.tf_journal.specs.Flags.{is_pending}
+use Rattle.tf_journal.specs.Flags.{is_pending, is_settling}
 use Rattle.tf_journal.specs.Journal.{accounts_of, is_failed, transfers_of}
 use Rattle.tf_journal.specs.Lawful.{IsSound}
 use Rattle.tf_journal.specs.Lookup.{account_with_id, id_use_of, shown, shown_with_id, transfer_with_id, unstored_use}
@@ -24,8 +24,10 @@ use Rattle.tf_manifest.specs.Rows.{Pair, failed_pair, for_transfers, key_of, row
 use Rattle.tf_manifest.specs.Shows.{Content, Shows}
 use Rattle.tf_manifest.proofs.Members.{Has, has_chosen, has_left, has_made, has_map, has_right, none_has}
 use Rattle.tf_manifest.proofs.OneValue.{contained, has_at}
-use Rattle.tf_forest.specs.Edits.{party_of, present_party}
-use Rattle.tf_forest.specs.LookUps.{account_at, account_read, as_account, as_stamp, as_state, as_status, as_transfer, if_pending, party_read, party_with, pending_read, shown_party, shown_read, state_read, status_read, stored_in, transfer_at, transfer_read, use_by, use_read, with_state_read}
+use Rattle.tf_forest.specs.declared.found.Found.{Found}
+use Rattle.tf_forest.specs.declared.found.Party.{Party}
+use Rattle.tf_forest.specs.Edits.{found_by_expiry, found_by_transfer, found_for, party_of, present_party}
+use Rattle.tf_forest.specs.LookUps.{account_at, account_read, as_account, as_stamp, as_state, as_status, as_transfer, found_read, if_pending, party_read, party_with, pending_read, shown_party, shown_read, state_read, status_read, stored_in, transfer_at, transfer_read, use_by, use_read, with_state_read}
 use Rattle.tf_forest.proofs.GoingBack.{account_id_new, transfer_id_new}
 use Rattle.tf_forest.proofs.Changes.{RowsAreMaps, no_value}
 use Rattle.tf_forest.proofs.Grown.{id_pair}
@@ -44,6 +46,9 @@ failed_has id (entry.Failed timestamp failed ∷ journal) is = by_test (failed =
       → (moment : ℕ) × Has (entry.Failed timestamp failed ∷ journal) (entry.Failed moment id)
   by_test true same all rest = (timestamp, inl (ap (λ (n : ℕ). entry.Failed timestamp n) (eqb-true failed id same)))
   by_test false other all rest = let found = rest all in (found.0, inr found.1)
+
+abbrev with_found : Option Party → Option Party → Option Transfer → Found
+with_found debit credit settled = record { debit = debit; credit = credit; settled = settled }
 
 module _ (maps : RowsAreMaps) (content : Content) (journal : List Entry) (sound : IsSound journal) (shows : Shows content journal) where
   -- what the rows have is that of a pair
@@ -176,3 +181,22 @@ module _ (maps : RowsAreMaps) (content : Content) (journal : List Entry) (sound 
         let there = read_there row.PendingStatus (key_of 0 p.timestamp) (value.Status (status_of journal p)) ((statuses_are journal).into p (has, parts.0)) in
         let read = subst (λ (n : ℕ). content row.PendingStatus (key_of 0 n) ≡ Some (value.Status (status_of journal p))) at there in
         ap (option_and_then as_status) read ∙ sym (ap (option_map (status_of journal)) found)
+
+  found_by_transfer_is : (t : Transfer) → found_by_transfer (party_read content) (transfer_read content) t ≡ found_by_transfer (party_of journal) (transfer_with_id journal) t
+  found_by_transfer_is t =
+      ap (λ (o : Option Party). with_found o (party_read content t.credit_account_id) (if is_settling t then transfer_read content t.pending_id else None)) (party_is_read t.debit_account_id)
+      ∙ ap (λ (o : Option Party). with_found (party_of journal t.debit_account_id) o (if is_settling t then transfer_read content t.pending_id else None)) (party_is_read t.credit_account_id)
+      ∙ ap (λ (o : Option Transfer). with_found (party_of journal t.debit_account_id) (party_of journal t.credit_account_id) (if is_settling t then o else None)) (transfer_is_read t.pending_id)
+
+  found_by_expiry_is : (o : Option Transfer) → found_by_expiry (party_read content) o ≡ found_by_expiry (party_of journal) o
+  found_by_expiry_is None = refl
+  found_by_expiry_is (Some p) =
+      ap (λ (o : Option Party). with_found o (party_read content p.credit_account_id) (Some p)) (party_is_read p.debit_account_id)
+      ∙ ap (λ (o : Option Party). with_found (party_of journal p.debit_account_id) o (Some p)) (party_is_read p.credit_account_id)
+
+  pub found_is_read : (e : Entry) → found_read content e ≡ found_for journal e
+  found_is_read (entry.Account a) = refl
+  found_is_read (entry.Transfer t) = found_by_transfer_is t
+  found_is_read (entry.Expiry timestamp pending) =
+      ap (found_by_expiry (party_read content)) (pending_is_read pending) ∙ found_by_expiry_is (pending_at journal pending)
+  found_is_read (entry.Failed timestamp id) = refl

@@ -32,7 +32,9 @@ use Rattle.tf_manifest.specs.Rows.{Pair, failed_pair, for_transfers, key_of, row
 use Rattle.tf_manifest.proofs.Members.{Has, any_has, chosen_from, has_either, has_left, has_made, has_right, none_has}
 use Rattle.tf_manifest.proofs.OneValue.{is_failure}
 use Rattle.tf_forest.specs.Back.{edits_back, expired_edits_back, expiry_back, states_back, taken_away, transfer_edits_back}
-use Rattle.tf_forest.specs.Edits.{Edit, Found, Party, account_edits, expired_edits, expiry_edit, expiry_edits, expiry_key, failed_edits, found_for_expiry, found_for_transfer, gone, history_edit, party_of, present_party, put, state_after, state_edit, state_edits, state_settled, status_edit, status_edits, transfer_edits}
+use Rattle.tf_forest.specs.declared.found.Found.{Found}
+use Rattle.tf_forest.specs.declared.found.Party.{Party}
+use Rattle.tf_forest.specs.Edits.{Edit, account_edits, expired_edits, expiry_edit, expiry_edits, expiry_key, failed_edits, found_for_expiry, found_for_transfer, gone, history_edit, party_of, present_party, put, state_after, state_edit, state_edits, state_settled, status_edit, status_edits, transfer_edits}
 use Rattle.tf_forest.proofs.Changes.{IsChange, IsUntouched}
 use Rattle.tf_forest.proofs.Early.{AreAt, AreNew, both_at, early_accounts, early_expired, early_expiries, early_history, early_new, early_statuses, early_transfers, no_new, none_at, one_at, reversed, takes_away}
 use Rattle.tf_forest.proofs.Entries.{account_changes, expired_changes, failed_changes, transfer_changes}

@@ -13,3 +13,8 @@ pub mod FoundInRows
 pub mod Parts
 pub mod Steps
 pub mod Next
+pub mod InRange
+pub mod Listed
+pub mod EditsOfRows
+pub mod CanChange
+pub mod Notes

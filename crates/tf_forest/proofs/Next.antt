@@ -28,7 +28,7 @@ value_kept : (part : Part) (key : Key) (entry : Option Value) (k : Key) → k �
 value_kept part key entry k other = ap (λ (x : Option (Option Value)). option_flatten (first_some x (entry_of k part.below))) (with_row-there key k entry part.fresh other)
 
 -- rows are the same or not
-by_row : (P : Type 0) (r s : Row) → (r ≡ s → P) → ((place_of r == place_of s) ≡ false → P) → P
+pub by_row : (P : Type 0) (r s : Row) → (r ≡ s → P) → ((place_of r == place_of s) ≡ false → P) → P
 by_row P r s same other = by_test (place_of r == place_of s) refl where
   by_test : (b : Bool) → (place_of r == place_of s) ≡ b → P
   by_test true e = same (place_exact r s (eqb-true (place_of r) (place_of s) e))
@@ -89,7 +89,7 @@ module _ (edits : Row → List Edit) where
   of_row r = map (change_of r) (edits r)
 
   -- each change comes from an edit of its row
-  from_edit : (rows : List Row) (c : Change) → Has (flat_map of_row rows) c → Has (edits c.row) (c.key, c.value)
+  pub from_edit : (rows : List Row) (c : Change) → Has (flat_map of_row rows) c → Has (edits c.row) (c.key, c.value)
   from_edit [] c h = absurd h
   from_edit (r ∷ rows) c h = elim (has_either (of_row r) (flat_map of_row rows) c h) [
     | inl own ↦

@@ -8,7 +8,8 @@ use Rattle.tf_journal.specs.declared.status.Status.TheVariants as status
 use Rattle.tf_manifest.specs.declared.row.Row.{Row}
 use Rattle.tf_manifest.specs.declared.row.Row.TheVariants as row
 use Rattle.tf_manifest.specs.declared.value.Value.TheVariants as value
-use Rattle.tf_forest.specs.Edits.{Edit, Found, account_edits, expired_edits, expiry_edit, failed_edits, found_for, gone, put, state_edits, status_edit, transfer_edits}
+use Rattle.tf_forest.specs.declared.found.Found.{Found}
+use Rattle.tf_forest.specs.Edits.{Edit, account_edits, expired_edits, expiry_edit, failed_edits, found_for, gone, put, state_edits, status_edit, transfer_edits}
 
 -- the key of an edit goes
 abbrev pub taken_away : Edit → Edit

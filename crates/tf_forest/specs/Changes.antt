@@ -1,11 +1,21 @@
 -- Changes of rows one after another, and the steps that take them back.
-use Rattle.std.specs.Prelude.{◌≡◌, ◌==◌, ◌⊎◌, List, [], ◌∷◌, None, Bool, IsTrue, IsSome, IfSome, ⊤, if◌then◌else◌}
+use Rattle.std.specs.Prelude.{◌≡◌, ◌==◌, ◌⊎◌, List, [], ◌∷◌, Option, Some, None, Bool, IsTrue, IsSome, IfSome, ⊤, if◌then◌else◌}
+use Rattle.std.specs.List.{flat_map}
 use Rattle.tf_table.specs.Content.{entry_at}
 use Rattle.tf_manifest.specs.declared.row.Row.{Row}
 use Rattle.tf_manifest.specs.declared.value.Value.{Value}
 use Rattle.tf_forest.specs.declared.change.Change.{Change}
 use Rattle.tf_forest.specs.declared.change.Step.{Step}
 use Rattle.tf_forest.specs.Parts.{Part, Parts, place_of, with_back, with_entry}
+
+-- a change, if there is one
+abbrev pub listed : Option Change → List Change
+listed None = []
+listed (Some change) = change ∷ []
+
+-- the changes that there are
+abbrev pub present : List (Option Change) → List Change
+present changes = flat_map listed changes
 
 -- rows of which one has something else
 abbrev pub with_part : Row → Part → Parts → Parts

@@ -24,6 +24,8 @@ use Rattle.tf_manifest.specs.declared.value.State.{State}
 use Rattle.tf_manifest.specs.declared.value.Value.{Value}
 use Rattle.tf_manifest.specs.declared.value.Value.TheVariants as value
 use Rattle.tf_manifest.specs.Rows.{key_of, state_of}
+use Rattle.tf_forest.specs.declared.found.Found.{Found}
+use Rattle.tf_forest.specs.declared.found.Party.{Party}
 
 -- a key and what the row has there afterwards: a value, or nothing
 abbrev pub Edit : Type 0
@@ -37,17 +39,6 @@ put key v = (key, Some v)
 abbrev pub gone : Key → Edit
 gone key = (key, None)
 
--- an account as it was stored, and its state before the entry
-pub record Party : Type 0 where
-  pub account : Account
-  pub state : State
-
--- what is looked up for an entry: the account on each side, and the pending transfer that it posts, voids or expires
-pub record Found : Type 0 where
-  pub debit : Option Party
-  pub credit : Option Party
-  pub settled : Option Transfer
-
 -- a stored account with its present state
 abbrev pub present_party : List Entry → Account → Party
 present_party journal account = record { account = account; state = state_of journal account }
@@ -60,21 +51,28 @@ party_of journal id = option_map (present_party journal) (account_with_id journa
 abbrev pub nothing_found : Found
 nothing_found = record { debit = None; credit = None; settled = None }
 
--- for a transfer: its accounts, and of a post or void the pending transfer that it names
-abbrev pub found_for_transfer : List Entry → Transfer → Found
-found_for_transfer journal transfer = record {
-  debit = party_of journal transfer.debit_account_id;
-  credit = party_of journal transfer.credit_account_id;
-  settled = if is_settling transfer then transfer_with_id journal transfer.pending_id else None;
+-- for a transfer: its accounts, and of a post or void the pending transfer that it names, by what ids have
+abbrev pub found_by_transfer : (ℕ → Option Party) → (ℕ → Option Transfer) → Transfer → Found
+found_by_transfer party_with transfer_with transfer = record {
+  debit = party_with transfer.debit_account_id;
+  credit = party_with transfer.credit_account_id;
+  settled = if is_settling transfer then transfer_with transfer.pending_id else None;
 }
 
 -- for an expiry: the pending transfer that it names, and its accounts
-abbrev pub found_for_expiry : List Entry → Option Transfer → Found
-found_for_expiry journal pending = record {
-  debit = option_and_then (λ transfer. party_of journal transfer.debit_account_id) pending;
-  credit = option_and_then (λ transfer. party_of journal transfer.credit_account_id) pending;
+abbrev pub found_by_expiry : (ℕ → Option Party) → Option Transfer → Found
+found_by_expiry party_with pending = record {
+  debit = option_and_then (λ transfer. party_with transfer.debit_account_id) pending;
+  credit = option_and_then (λ transfer. party_with transfer.credit_account_id) pending;
   settled = pending;
 }
+
+-- what a journal has for a transfer, and for an expiry
+abbrev pub found_for_transfer : List Entry → Transfer → Found
+found_for_transfer journal transfer = found_by_transfer (party_of journal) (transfer_with_id journal) transfer
+
+abbrev pub found_for_expiry : List Entry → Option Transfer → Found
+found_for_expiry journal pending = found_by_expiry (party_of journal) pending
 
 -- what is looked up in a journal for its next entry
 abbrev pub found_for : List Entry → Entry → Found
@@ -126,6 +124,10 @@ abbrev pub state_after : Side → Transfer → Option Transfer → State → Sta
 state_after side transfer (Some pending) state = state_settled side pending (posted_amount transfer) state
 state_after side transfer None state =
     if is_pending transfer then state_pending side transfer state else state_moved side transfer state
+
+-- an account after a change of its state
+abbrev pub party_after : (State → State) → Party → Party
+party_after change party = record party { state = change party.state }
 
 -- the edit of an account's state
 abbrev pub state_edit : (State → State) → Party → List Edit

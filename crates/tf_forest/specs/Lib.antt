@@ -5,3 +5,6 @@ pub mod Held
 pub mod Parts
 pub mod Changes
 pub mod Next
+pub mod Range
+pub mod Nest
+pub mod Forest

@@ -3,6 +3,8 @@ use Rattle.std.specs.Prelude.{ℕ, Option, Some, None, if◌then◌else◌}
 use Rattle.std.specs.Option.{option_and_then, option_map, option_map_or}
 use Rattle.tf_records.specs.declared.account.Account.{Account}
 use Rattle.tf_records.specs.declared.transfer.Transfer.{Transfer}
+use Rattle.tf_journal.specs.declared.entry.Entry.{Entry}
+use Rattle.tf_journal.specs.declared.entry.Entry.TheVariants as entry
 use Rattle.tf_journal.specs.declared.id_use.IdUse.{IdUse}
 use Rattle.tf_journal.specs.declared.id_use.IdUse.TheVariants.{Free, Failed, Stored}
 use Rattle.tf_journal.specs.declared.status.Status.{Status}
@@ -14,7 +16,9 @@ use Rattle.tf_manifest.specs.declared.value.Value.{Value}
 use Rattle.tf_manifest.specs.declared.value.Value.TheVariants as value
 use Rattle.tf_manifest.specs.Rows.{key_of}
 use Rattle.tf_manifest.specs.Shows.{Content}
-use Rattle.tf_forest.specs.Edits.{Party}
+use Rattle.tf_forest.specs.declared.found.Found.{Found}
+use Rattle.tf_forest.specs.declared.found.Party.{Party}
+use Rattle.tf_forest.specs.Edits.{found_by_expiry, found_by_transfer, nothing_found}
 
 -- what a value is, if it is of a kind
 abbrev pub as_stamp : Value → Option ℕ
@@ -103,3 +107,10 @@ pending_read content timestamp = option_and_then if_pending (transfer_at content
 -- the status of the pending transfer with this timestamp
 abbrev pub status_read : Content → ℕ → Option Status
 status_read content timestamp = option_and_then as_status (content row.PendingStatus (key_of 0 timestamp))
+
+-- what is looked up for an entry, read from rows
+abbrev pub found_read : Content → Entry → Found
+found_read content (entry.Account account) = nothing_found
+found_read content (entry.Transfer transfer) = found_by_transfer (party_read content) (transfer_read content) transfer
+found_read content (entry.Expiry timestamp pending) = found_by_expiry (party_read content) (pending_read content pending)
+found_read content (entry.Failed timestamp id) = nothing_found

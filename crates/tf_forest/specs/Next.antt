@@ -6,7 +6,8 @@ use Rattle.tf_manifest.specs.declared.row.Row.{Row}
 use Rattle.tf_manifest.specs.RowNames.{rows_in_order}
 use Rattle.tf_manifest.specs.Shows.{Content}
 use Rattle.tf_forest.specs.declared.change.Change.{Change}
-use Rattle.tf_forest.specs.Edits.{Edit, Found, edits_by, found_for}
+use Rattle.tf_forest.specs.declared.found.Found.{Found}
+use Rattle.tf_forest.specs.Edits.{Edit, edits_by, found_for}
 use Rattle.tf_forest.specs.Parts.{Parts, value_of_part}
 
 -- what rows have at their keys

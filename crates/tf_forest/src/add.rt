@@ -4,27 +4,16 @@ ghost use Rattle.tf_journal.specs.declared.entry.Entry.{Entry};
 ghost use Rattle.tf_journal.specs.Lawful.{IsSound};
 ghost use Rattle.tf_journal.specs.Ledger.{CanGrow};
 ghost use Rattle.tf_manifest.specs.Shows.{Shows};
-ghost use Rattle.tf_forest.specs.Changes.{CanChangeAll, CanStepAll, all_stepped};
+ghost use Rattle.tf_forest.specs.Changes.{CanChangeAll, CanStepAll, all_changed, all_stepped, present};
 ghost use Rattle.tf_forest.specs.Edits.{new_state, nothing_found};
 ghost use Rattle.tf_forest.specs.Next.{changes_by, content_in};
 
+use crate::row_change::{index, put};
 use crate::{Change, RowSet, Step, make_changes, rows_show_the_next_entry};
 use std::alloc::Allocator;
 use tf_journal::{Entry, is_marked_closed};
 use tf_manifest::{Row, State, Value};
 use tf_records::{Account, Refusal, Sums};
-use tf_table::Key;
-
-/// What a row has at the key of a value and a timestamp afterwards.
-fn put(row: Row, value: u128, timestamp: u64, has: Value) -> Change
-    ensures { result ≡ record { row = row; key = record { value = value; timestamp = timestamp }; value = Some has } }
-{
-    Change {
-        row,
-        key: Key { value, timestamp },
-        value: Some(has),
-    }
-}
 
 /// The state of a new account: all sums 0, closed as its own flag says.
 fn new_state(account: &Account) -> State
@@ -42,39 +31,19 @@ fn new_state(account: &Account) -> State
 }
 
 /// What a new account changes.
-fn account_changes(account: &Account) -> [Change; 8]
-    ensures { result ≡ changes_by nothing_found (Entry.Account account.now) }
+fn account_changes(account: &Account) -> [Option<Change>; 8]
+    ensures { present result ≡ changes_by nothing_found (Entry.Account account.now) }
 {
     let stamp = account.timestamp;
     let state = new_state(account);
     [
         put(Row::AccountObjects, 0, stamp, Value::Account(*account)),
         put(Row::AccountIds, account.id, 0, Value::Stamp(stamp)),
-        put(
-            Row::AccountUserData128,
-            account.user_data_128,
-            stamp,
-            Value::Unit,
-        ),
-        put(
-            Row::AccountUserData64,
-            account.user_data_64 as u128,
-            stamp,
-            Value::Unit,
-        ),
-        put(
-            Row::AccountUserData32,
-            account.user_data_32 as u128,
-            stamp,
-            Value::Unit,
-        ),
-        put(
-            Row::AccountLedger,
-            account.ledger as u128,
-            stamp,
-            Value::Unit,
-        ),
-        put(Row::AccountCode, account.code as u128, stamp, Value::Unit),
+        index(Row::AccountUserData128, account.user_data_128, stamp),
+        index(Row::AccountUserData64, account.user_data_64 as u128, stamp),
+        index(Row::AccountUserData32, account.user_data_32 as u128, stamp),
+        index(Row::AccountLedger, account.ledger as u128, stamp),
+        index(Row::AccountCode, account.code as u128, stamp),
         put(Row::AccountSums, 0, stamp, Value::State(state)),
     ]
 }
@@ -89,6 +58,7 @@ pub fn add_account<S: RowSet, A: Allocator>(
 ) -> Result<Vec<Step, A>, Refusal>
     requires { CanChangeAll S.has_row S.fits S.takes_any (changes_by nothing_found (Entry.Account account.now)) (S.parts rows.old) }
     ensures shows { (journal : List Entry) → IsSound journal → CanGrow journal (Entry.Account account.now) → Shows (content_in (S.parts rows.old)) journal → OnOk result (Shows (content_in (S.parts rows.new)) (journal ++ Entry.Account account.now ∷ [])) }
+    ensures rows { OnOk result (S.parts rows.new ≡ all_changed (changes_by nothing_found (Entry.Account account.now)) (S.parts rows.old)) }
     ensures steps { IfOk result (λ steps. CanStepAll S.has_row S.fits S.takes_any steps.items (S.parts rows.new)) }
     ensures back { IfOk result (λ steps. all_stepped steps.items (S.parts rows.new) ≡ S.parts rows.old) }
     ensures err { OnErr result (S.parts rows.new ≡ S.parts rows.old) }
@@ -109,6 +79,7 @@ pub fn add_failed<S: RowSet, A: Allocator>(
 ) -> Result<Vec<Step, A>, Refusal>
     requires { CanChangeAll S.has_row S.fits S.takes_any (changes_by nothing_found (Entry.Failed timestamp id)) (S.parts rows.old) }
     ensures shows { (journal : List Entry) → IsSound journal → CanGrow journal (Entry.Failed timestamp id) → Shows (content_in (S.parts rows.old)) journal → OnOk result (Shows (content_in (S.parts rows.new)) (journal ++ Entry.Failed timestamp id ∷ [])) }
+    ensures rows { OnOk result (S.parts rows.new ≡ all_changed (changes_by nothing_found (Entry.Failed timestamp id)) (S.parts rows.old)) }
     ensures steps { IfOk result (λ steps. CanStepAll S.has_row S.fits S.takes_any steps.items (S.parts rows.new)) }
     ensures back { IfOk result (λ steps. all_stepped steps.items (S.parts rows.new) ≡ S.parts rows.old) }
     ensures err { OnErr result (S.parts rows.new ≡ S.parts rows.old) }

@@ -1,6 +1,6 @@
 //! Changes of rows, and the steps that take them back.
 ghost use Rattle.std.specs.Prelude.{◌≡◌, IfOk, IfErr, OnOk, OnErr};
-ghost use Rattle.tf_forest.specs.Changes.{CanChange, CanChangeAll, CanStepAll, all_changed, all_stepped, changed};
+ghost use Rattle.tf_forest.specs.Changes.{CanChange, CanChangeAll, CanStepAll, all_changed, all_stepped, changed, present};
 
 use crate::RowSet;
 use crate::part::Before;
@@ -25,16 +25,16 @@ pub struct Step {
     pub before: Before,
 }
 
-/// Makes changes one after another, and gives the steps that take them back.
+/// Makes the changes that there are, one after another, and gives the steps that take them back.
 ///
 /// The only refusal is `NoMemory`, and each row is then as it was.
 pub fn make_changes<S: RowSet, A: Allocator>(
     set: &mut S,
     alloc: A,
-    changes: &[Change],
+    changes: &[Option<Change>],
 ) -> Result<Vec<Step, A>, Refusal>
-    requires { CanChangeAll S.has_row S.fits S.takes_any changes.now (S.parts set.old) }
-    ensures rows { OnOk result (S.parts set.new ≡ all_changed changes.now (S.parts set.old)) }
+    requires { CanChangeAll S.has_row S.fits S.takes_any (present changes.now) (S.parts set.old) }
+    ensures rows { OnOk result (S.parts set.new ≡ all_changed (present changes.now) (S.parts set.old)) }
     ensures steps { IfOk result (λ steps. CanStepAll S.has_row S.fits S.takes_any steps.items (S.parts set.new)) }
     ensures back { IfOk result (λ steps. all_stepped steps.items (S.parts set.new) ≡ S.parts set.old) }
     ensures err { OnErr result (S.parts set.new ≡ S.parts set.old) }
@@ -44,6 +44,9 @@ pub fn make_changes<S: RowSet, A: Allocator>(
         return Err(Refusal::NoMemory);
     };
     for change in changes {
+        let Some(change) = change else {
+            continue;
+        };
         if let Err(refusal) = make_change(set, *change, &mut steps) {
             take_steps(set, &mut steps);
             return Err(refusal);

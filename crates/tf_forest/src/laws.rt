@@ -7,10 +7,12 @@ ghost use Rattle.std.specs.Prelude.{◌≡◌, ◌∷◌, ◌++◌, List, [], �
 ghost use Rattle.std.specs.List.{All};
 ghost use Rattle.tf_forest.specs.Back.{edits_back};
 ghost use Rattle.tf_forest.specs.Changes.{all_changed};
-ghost use Rattle.tf_forest.specs.Edits.{edited, edits, party_of};
-ghost use Rattle.tf_forest.specs.LookUps.{party_read, pending_read, shown_read, status_read, transfer_read, use_read};
+ghost use Rattle.tf_forest.specs.Edits.{edited, edits, found_for, party_of};
+ghost use Rattle.tf_forest.specs.LookUps.{found_read, party_read, pending_read, shown_read, status_read, transfer_read, use_read};
 ghost use Rattle.tf_forest.specs.Next.{changes, content_in};
 ghost use Rattle.tf_forest.specs.Parts.{Parts};
+ghost use Rattle.tf_forest.specs.Range.{LeavesInRange};
+ghost use Rattle.tf_records.specs.declared.transfer.Transfer.{Transfer};
 ghost use Rattle.tf_journal.specs.declared.entry.Entry.{Entry};
 ghost use Rattle.tf_journal.specs.Lawful.{IsSound};
 ghost use Rattle.tf_journal.specs.Ledger.{CanGrow};
@@ -19,6 +21,7 @@ ghost use Rattle.tf_journal.specs.Status.{pending_at, status_at};
 ghost use Rattle.tf_manifest.specs.Shows.{Content, Shows, value_of};
 ghost use Rattle.tf_table.specs.declared.key.Key.{Key};
 
+use tf_journal::journals_are_within_limits;
 use tf_manifest::{Row, rows_are_maps};
 
 /// What a journal's next entry changes in the 21 rows: at the key of an edit the row has what the edit says, and at
@@ -51,6 +54,7 @@ pub fn rows_answer_look_ups()
     ensures shown { (content : Content) (journal : List Entry) → IsSound journal → Shows content journal → (id : ℕ) → shown_read content id ≡ shown_with_id journal id }
     ensures statuses { (content : Content) (journal : List Entry) → IsSound journal → Shows content journal → (timestamp : ℕ) → status_read content timestamp ≡ status_at journal timestamp }
     ensures pending { (content : Content) (journal : List Entry) → IsSound journal → Shows content journal → (timestamp : ℕ) → pending_read content timestamp ≡ pending_at journal timestamp }
+    ensures found { (content : Content) (journal : List Entry) → IsSound journal → Shows content journal → (e : Entry) → found_read content e ≡ found_for journal e }
 {
     // An id has the timestamp of its record, under which the record stands.
     rows_are_maps();
@@ -63,4 +67,15 @@ pub fn rows_show_the_next_entry()
 {
     rows_change_by_edits();
     // The changes of an entry are its edits, row by row.
+}
+
+/// The sums of a journal's next transfer's accounts, computed from what was looked up for it, are in range: neither what
+/// is pending nor what is posted on a side passes `2^128 - 1`. Does nothing.
+pub fn transfers_leave_sums_in_range()
+    ensures { (journal : List Entry) (transfer : Transfer) → IsSound journal → CanGrow journal (Entry.Transfer transfer) → LeavesInRange (found_for journal (Entry.Transfer transfer)) transfer }
+{
+    rows_change_by_edits();
+    rows_are_maps();
+    journals_are_within_limits();
+    // Each state that a transfer leaves is one that the rows have afterwards, and no sum of a ledger wraps.
 }

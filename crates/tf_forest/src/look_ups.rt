@@ -2,10 +2,10 @@
 ghost use Rattle.std.specs.Prelude.{◌≡◌, IsTrue};
 ghost use Rattle.tf_manifest.specs.declared.row.Row.{Row};
 ghost use Rattle.tf_manifest.specs.Rows.{key_of};
-ghost use Rattle.tf_forest.specs.LookUps.{account_read, pending_read, shown_read, state_read, status_read, transfer_at, transfer_read, use_read};
+ghost use Rattle.tf_forest.specs.LookUps.{account_read, party_read, pending_read, shown_read, state_read, status_read, transfer_at, transfer_read, use_read};
 ghost use Rattle.tf_forest.specs.Next.{content_in};
 
-use crate::RowSet;
+use crate::{Party, RowSet};
 use tf_journal::{IdUse, Status, is_pending};
 use tf_manifest::{Row, State, Value};
 use tf_records::{Account, Transfer};
@@ -43,13 +43,25 @@ fn state_of<S: RowSet>(rows: &S, account: &Account) -> Option<State>
     }
 }
 
+/// The account with this id as it was stored, with its present state, by three look-ups in rows.
+pub fn party<S: RowSet>(rows: &S, id: u128) -> Option<Party>
+    requires { (r : Row) → IsTrue (S.has_row r) }
+    ensures { result ≡ party_read (content_in (S.parts rows.now)) id }
+{
+    let account = stored_account(rows, id)?;
+    let state = state_of(rows, &account)?;
+    Some(Party { account, state })
+}
+
 /// The account with this id as answers show it, by three look-ups in rows.
 pub fn account<S: RowSet>(rows: &S, id: u128) -> Option<Account>
     requires { (r : Row) → IsTrue (S.has_row r) }
     ensures { result ≡ shown_read (content_in (S.parts rows.now)) id }
 {
-    let stored = stored_account(rows, id)?;
-    let state = state_of(rows, &stored)?;
+    let Party {
+        account: stored,
+        state,
+    } = party(rows, id)?;
     let flags = if state.closed {
         stored.flags | Account::CLOSED
     } else {

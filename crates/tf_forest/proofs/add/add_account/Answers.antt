@@ -19,3 +19,8 @@ returns-clause-shows g c = λ journal sound grows shows.
     (sym (e ∙ ap (λ (cs : List Change). all_changed cs (g.S.RowSet.parts c.args.rows.now)) c.account_changes.ensures))
     (c.rows_show_the_next_entry.ensures (g.S.RowSet.parts c.args.rows.now) journal (entry.Account c.args.account.now) sound grows shows))
     c.make_changes.ensures.rows
+
+pub returns-clause-rows : goal.returns-clause-rows
+returns-clause-rows g c =
+    on_ok c.make_changes.result _ _ (λ e. e ∙ ap (λ (cs : List Change). all_changed cs (g.S.RowSet.parts c.args.rows.now)) c.account_changes.ensures)
+    c.make_changes.ensures.rows

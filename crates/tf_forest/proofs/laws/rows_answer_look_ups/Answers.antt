@@ -1,4 +1,4 @@
-use Rattle.tf_forest.proofs.FoundInRows.{party_is_read, pending_is_read, shown_is_read, status_is_read, transfer_is_read, use_is_read}
+use Rattle.tf_forest.proofs.FoundInRows.{found_is_read, party_is_read, pending_is_read, shown_is_read, status_is_read, transfer_is_read, use_is_read}
 use Rattle.tf_forest.proofs.laws.rows_answer_look_ups.Goals as goal
 
 pub returns-clause-parties : goal.returns-clause-parties
@@ -18,3 +18,6 @@ returns-clause-shown c = shown_is_read c.rows_are_maps.ensures
 
 pub returns-clause-statuses : goal.returns-clause-statuses
 returns-clause-statuses c = status_is_read c.rows_are_maps.ensures
+
+pub returns-clause-found : goal.returns-clause-found
+returns-clause-found c = found_is_read c.rows_are_maps.ensures

@@ -1,0 +1,182 @@
+//! The ledger whose journal its rows spell.
+ghost use Rattle.std.specs.Prelude.{◌≡◌, ◌≤◌, [], length, take, OnErr};
+ghost use Rattle.tf_forest.specs.Forest.{ShowTheirJournal, journal_in};
+ghost use Rattle.tf_forest.specs.Nest.{AreEmpty};
+ghost use Rattle.tf_journal.specs.declared.entry.Entry.{Entry};
+ghost use Rattle.tf_journal.specs.Journal.{IsUpTo};
+ghost use Rattle.tf_journal.specs.Ledger.{CanGrow, IsAddition};
+ghost use Rattle.tf_journal.specs.Lookup.{id_use_of, shown_with_id, transfer_with_id};
+ghost use Rattle.tf_journal.specs.Status.{status_at};
+
+use crate::note::{Note, note_down, undo_to};
+use crate::{
+    AllRows, account, add_account, add_failed, id_use, next_entry_can_be_added,
+    rows_answer_look_ups, rows_spell_the_journal_they_show, status, transfer,
+};
+use std::alloc::Allocator;
+use std::marker::Model;
+use tf_journal::{IdUse, Mark, Status};
+use tf_records::{Account, Refusal, TIMESTAMP_MAX, Transfer};
+
+/// A ledger over 21 rows, with a note for each entry that isn't kept.
+///
+/// Its journal is the one that the rows spell. Contracts see the journal, the clock and the kept length. A look-up takes a
+/// few look-ups in rows, whatever the journal's length.
+#[derive(Drop)]
+pub struct Forest<S: AllRows + Drop, A: Allocator + Copy> {
+    rows: S,
+    /// The oldest first.
+    notes: Vec<Note<A>, A>,
+    clock: u64,
+    kept: usize,
+    alloc: A,
+}
+
+impl<S: AllRows + Drop, A: Allocator + Copy> Model for Forest<S, A> {
+    ghost use Rattle.tf_forest.specs.Forest.{View};
+
+    ghost Value = { View };
+
+    ghost use Rattle.tf_forest.specs.Forest.{IsForest, journal_in};
+
+    ghost view = { λ f. record { journal = journal_in (S.parts f.rows); clock = f.clock; kept = f.kept } };
+
+    ghost invariant = { λ f. IsForest S.has_row S.fits S.takes_any (S.parts f.rows) f.notes.items f.kept };
+}
+
+impl<S: AllRows + Drop, A: Allocator + Copy> Forest<S, A> {
+    /// The empty ledger, at clock 0, over rows that have nothing. It takes no memory.
+    pub fn new(alloc: A, rows: S) -> Forest<S, A>
+        requires { AreEmpty (S.parts rows) }
+        ensures journal { result.journal ≡ [] }
+        ensures clock { result.clock ≡ 0 }
+        ensures kept { result.kept ≡ 0 }
+    {
+        rows_spell_the_journal_they_show();
+        Forest {
+            rows,
+            notes: Vec::new(alloc),
+            clock: 0,
+            kept: 0,
+            alloc,
+        }
+    }
+
+    /// The rows, which show the journal.
+    #[inline]
+    pub fn rows(&self) -> &S
+        ensures journal { journal_in (S.parts result.now) ≡ self.now.journal }
+        ensures shows { ShowTheirJournal (S.parts result.now) }
+        ensures kept { self.now.kept ≤ length self.now.journal }
+    {
+        &self.rows
+    }
+
+    /// The moment after which the next timestamps are given out, 0 at first. It takes no memory.
+    #[inline]
+    pub fn clock(&self) -> u64
+        ensures { result ≡ self.now.clock }
+    {
+        self.clock
+    }
+
+    /// The account with this id, its four sums filled in, and marked as closed where it is: by three look-ups in rows.
+    pub fn account(&self, id: u128) -> Option<Account>
+        ensures { result ≡ shown_with_id self.now.journal id }
+    {
+        rows_answer_look_ups();
+        account(&self.rows, id)
+    }
+
+    /// The transfer with this id: by two look-ups in rows.
+    pub fn transfer(&self, id: u128) -> Option<Transfer>
+        ensures { result ≡ transfer_with_id self.now.journal id }
+    {
+        rows_answer_look_ups();
+        transfer(&self.rows, id)
+    }
+
+    /// What a transfer id is used for: by one look-up in a row, and one more where it is that of a stored transfer.
+    pub fn id_use(&self, id: u128) -> IdUse
+        ensures { result ≡ id_use_of self.now.journal id }
+    {
+        rows_answer_look_ups();
+        id_use(&self.rows, id)
+    }
+
+    /// The status of the pending transfer with this timestamp: by one look-up in a row.
+    pub fn status(&self, pending: u64) -> Option<Status>
+        ensures { result ≡ status_at self.now.journal pending }
+    {
+        rows_answer_look_ups();
+        status(&self.rows, pending)
+    }
+
+    /// Stores an account, which the journal admits. `NoMemory` leaves all as it was.
+    pub fn add_account(&mut self, account: Account) -> Result<(), Refusal>
+        requires { CanGrow self.old.journal (Entry.Account account) }
+        ensures addition { IsAddition (λ f. f.journal) (λ f. f.clock) (λ f. f.kept) self.old self.new (Entry.Account account) result }
+        ensures err { OnErr result (self.new ≡ self.old) }
+    {
+        if self.notes.reserve(1).is_err() {
+            return Err(Refusal::NoMemory);
+        }
+        next_entry_can_be_added();
+        rows_spell_the_journal_they_show();
+        let steps = add_account(&mut self.rows, self.alloc, &account)?;
+        note_down(&mut self.notes, Note::new(steps));
+        Ok(())
+    }
+
+    /// Stores that a transfer with this id failed for a passing reason. `NoMemory` leaves all as it was.
+    pub fn add_failed(&mut self, timestamp: u64, id: u128) -> Result<(), Refusal>
+        requires { CanGrow self.old.journal (Entry.Failed timestamp id) }
+        ensures addition { IsAddition (λ f. f.journal) (λ f. f.clock) (λ f. f.kept) self.old self.new (Entry.Failed timestamp id) result }
+        ensures err { OnErr result (self.new ≡ self.old) }
+    {
+        if self.notes.reserve(1).is_err() {
+            return Err(Refusal::NoMemory);
+        }
+        next_entry_can_be_added();
+        rows_spell_the_journal_they_show();
+        let steps = add_failed(&mut self.rows, self.alloc, timestamp, id)?;
+        note_down(&mut self.notes, Note::new(steps));
+        Ok(())
+    }
+
+    /// The present length of the journal, which isn't below what was last kept. It takes no memory.
+    #[inline]
+    pub fn mark(&self) -> Mark
+        ensures present { result.length ≡ length self.now.journal }
+        ensures not_kept { self.now.kept ≤ result.length }
+    {
+        Mark {
+            length: self.kept + self.notes.len(),
+        }
+    }
+
+    /// Cuts the journal back to a mark that isn't below what was last kept. It takes no memory, and as many steps as the
+    /// entries changed keys.
+    pub fn undo(&mut self, to: Mark)
+        requires not_kept { self.old.kept ≤ to.length }
+        requires present { to.length ≤ length self.old.journal }
+        ensures cut { self.new.journal ≡ take to.length self.old.journal }
+        ensures clock_kept { self.new.clock ≡ self.old.clock }
+        ensures length_kept { self.new.kept ≡ self.old.kept }
+    {
+        undo_to(&mut self.rows, &mut self.notes, to.length - self.kept);
+    }
+
+    /// Lets all entries stand for good, and sets the clock, to which no entry is younger. It takes no memory.
+    pub fn keep(&mut self, moment: u64)
+        requires up_to { IsUpTo moment self.old.journal }
+        requires in_range { moment ≤ TIMESTAMP_MAX }
+        ensures same { self.new.journal ≡ self.old.journal }
+        ensures clock { self.new.clock ≡ moment }
+        ensures all_kept { self.new.kept ≡ length self.old.journal }
+    {
+        self.kept += self.notes.len();
+        self.notes.clear();
+        self.clock = moment;
+    }
+}

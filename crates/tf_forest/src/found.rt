@@ -1,0 +1,92 @@
+//! What is looked up for an entry before it is added: all that its changes are computed from.
+ghost use Rattle.std.specs.Prelude.{◌≡◌, ℕ, List, IsTrue};
+ghost use Rattle.tf_journal.specs.Lawful.{IsSound};
+ghost use Rattle.tf_manifest.specs.declared.row.Row.{Row};
+ghost use Rattle.tf_manifest.specs.Shows.{Shows};
+ghost use Rattle.tf_journal.specs.declared.entry.Entry.{Entry};
+ghost use Rattle.tf_forest.specs.Edits.{found_by_expiry, found_by_transfer, found_for, nothing_found};
+ghost use Rattle.tf_forest.specs.LookUps.{found_read, party_read, pending_read, transfer_read};
+ghost use Rattle.tf_forest.specs.Next.{content_in};
+
+use crate::look_ups::{party, pending, transfer};
+use crate::{RowSet, rows_answer_look_ups};
+use tf_journal::{Entry, is_settling};
+use tf_manifest::State;
+use tf_records::{Account, Transfer};
+
+/// An account as it was stored, and its state before an entry.
+#[derive(Clone, Copy, Debug, PartialEq, Eq)]
+pub struct Party {
+    pub account: Account,
+    pub state: State,
+}
+
+/// What is looked up for an entry: the account on each side, and the pending transfer that it posts, voids or expires.
+#[derive(Clone, Copy, Debug, PartialEq, Eq)]
+pub struct Found {
+    pub debit: Option<Party>,
+    pub credit: Option<Party>,
+    pub settled: Option<Transfer>,
+}
+
+/// Nothing is looked up for an account or a failed id.
+fn nothing() -> Found
+    ensures { result ≡ nothing_found }
+{
+    Found {
+        debit: None,
+        credit: None,
+        settled: None,
+    }
+}
+
+/// What rows have for a transfer.
+fn for_transfer<S: RowSet>(rows: &S, adding: &Transfer) -> Found
+    requires { (r : Row) → IsTrue (S.has_row r) }
+    ensures { result ≡ found_by_transfer (party_read (content_in (S.parts rows.now))) (transfer_read (content_in (S.parts rows.now))) adding.now }
+{
+    let debit = party(rows, adding.debit_account_id);
+    let credit = party(rows, adding.credit_account_id);
+    let settled = if is_settling(adding) {
+        transfer(rows, adding.pending_id)
+    } else {
+        None
+    };
+    Found {
+        debit,
+        credit,
+        settled,
+    }
+}
+
+/// What rows have for an expiry of the pending transfer with this timestamp.
+fn for_expiry<S: RowSet>(rows: &S, timestamp: u64) -> Found
+    requires { (r : Row) → IsTrue (S.has_row r) }
+    ensures { result ≡ found_by_expiry (party_read (content_in (S.parts rows.now))) (pending_read (content_in (S.parts rows.now)) timestamp) }
+{
+    let Some(expiring) = pending(rows, timestamp) else {
+        return nothing();
+    };
+    let debit = party(rows, expiring.debit_account_id);
+    let credit = party(rows, expiring.credit_account_id);
+    Found {
+        debit,
+        credit,
+        settled: Some(expiring),
+    }
+}
+
+/// Looks up in rows what the changes of an entry are computed from, by three look-ups for each of two accounts and two
+/// for a pending transfer. Takes no memory.
+pub fn look_up<S: RowSet>(rows: &S, entry: &Entry) -> Found
+    requires { (r : Row) → IsTrue (S.has_row r) }
+    ensures read { result ≡ found_read (content_in (S.parts rows.now)) entry.now }
+    ensures found { (journal : List Entry) → IsSound journal → Shows (content_in (S.parts rows.now)) journal → result ≡ found_for journal entry.now }
+{
+    rows_answer_look_ups();
+    match entry {
+        Entry::Transfer(adding) => for_transfer(rows, adding),
+        Entry::Expiry { pending, .. } => for_expiry(rows, *pending),
+        Entry::Account(_) | Entry::Failed { .. } => nothing(),
+    }
+}
