@@ -1,5 +1,5 @@
-//! Tests of rows of tables, by public calls alone: each call on its happy path, each refusal, each request for memory
-//! refused in turn, and a merge in another thread. There is no code here beside them.
+//! Tests of rows of tables, by public calls alone: each call on its happy path, each refusal, want of memory among them,
+//! and a merge in another thread. There is no code here beside them.
 #![tactic(auto)]
 
 #[cfg(test)]
@@ -12,5 +12,3 @@ mod kinds;
 mod manifests;
 #[cfg(test)]
 mod refusals;
-#[cfg(test)]
-mod registries;

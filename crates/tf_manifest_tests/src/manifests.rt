@@ -132,7 +132,8 @@ fn assert_others_are_empty<N: Naming>(rt: &impl Abort, manifest: &Manifest<'_, G
     }
 }
 
-fn two_jobs<N: Naming>(
+/// A job of two tables leaves four, in a copy none fewer, and makes a second job of theirs stale.
+fn installed_once<N: Naming>(
     rt: &(impl Abort + Wait),
     alloc: Global,
     registries: &Registries<Global>,
@@ -153,38 +154,25 @@ fn two_jobs<N: Naming>(
     Ok(())
 }
 
-#[test]
-fn a_job_of_two_tables_leaves_four_and_makes_its_twin_stale(rt: HostRuntime) -> Result<(), Fail> {
-    let registries = Registries::new(rt.alloc())?;
-    two_jobs::<Brand>(&rt, rt.alloc(), &registries)
-}
-
-fn under_limit<N: Naming>(
+/// Five tables and more, up to the limit of the registries, leave no push for an install, and stay.
+fn refused_at_the_limit<N: Naming>(
     rt: &(impl Abort + Wait),
     alloc: Global,
     registries: &Registries<Global>,
-    tables: u32,
-) -> Result<Outcome, Fail>
+) -> Result<(), Fail>
     requires { AreShelves N.shelf registries.now }
 {
     let mut manifest = five_tables::<N>(rt, alloc, registries)?;
-    assert_eq!(rt; manifest.limit(), registries.limit);
+    assert_eq!(rt; manifest.limit(), 7);
     let out = merged(alloc, &manifest)?;
-    let outcome = install(rt, &mut manifest, out);
-    assert_expiry(rt, &manifest, tables, 5, 10u32.saturating_sub(tables));
-    Ok(outcome)
-}
-
-#[test]
-fn a_limit_of_pushes_refuses_an_install_and_keeps_the_tables(rt: HostRuntime) -> Result<(), Fail> {
-    for (limit, outcome, tables) in [(5, Outcome::RegistryFull, 5), (6, Outcome::Installed, 4)] {
-        let registries = Registries::with_limit(rt.alloc(), limit)?;
-        let seen = under_limit::<Brand>(&rt, rt.alloc(), &registries, tables)?;
-        assert_eq!(rt; seen, outcome);
-    }
+    grow(rt, alloc, &mut manifest, 5)?;
+    grow(rt, alloc, &mut manifest, 6)?;
+    assert_eq!(rt; install(rt, &mut manifest, out), Outcome::RegistryFull);
+    assert_expiry(rt, &manifest, 7, 7, 7);
     Ok(())
 }
 
+/// A job is merged in another thread while its row gains a table, and installed then.
 fn merged_beside<N: Naming + Send + Sync>(
     rt: &(impl Abort + Wait + Threads + Sync),
     alloc: Global,
@@ -206,8 +194,23 @@ fn merged_beside<N: Naming + Send + Sync>(
     Ok(())
 }
 
+fn in_turn<N: Naming + Send + Sync>(
+    rt: &(impl Abort + Wait + Threads + Sync),
+    alloc: Global,
+    registries: &Registries<Global>,
+) -> Result<(), Fail>
+    requires { AreShelves N.shelf registries.now }
+{
+    installed_once::<N>(rt, alloc, registries)?;
+    refused_at_the_limit::<N>(rt, alloc, registries)?;
+    merged_beside::<N>(rt, alloc, registries)
+}
+
+/// Each part has a manifest of its own, over the same registries.
 #[test]
-fn a_job_is_merged_in_another_thread_while_its_row_grows(rt: HostRuntime) -> Result<(), Fail> {
-    let registries = Registries::new(rt.alloc())?;
-    merged_beside::<Brand>(&rt, rt.alloc(), &registries)
+fn a_job_of_a_manifest_is_installed_once_under_its_limit_whatever_was_pushed(
+    rt: HostRuntime,
+) -> Result<(), Fail> {
+    let registries = Registries::with_limit(rt.alloc(), 7)?;
+    in_turn::<Brand>(&rt, rt.alloc(), &registries)
 }
