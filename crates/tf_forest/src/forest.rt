@@ -8,14 +8,15 @@ ghost use Rattle.tf_journal.specs.Ledger.{CanGrow, IsAddition};
 ghost use Rattle.tf_journal.specs.Lookup.{id_use_of, shown_with_id, transfer_with_id};
 ghost use Rattle.tf_journal.specs.Status.{status_at};
 
-use crate::note::{Note, note_down, undo_to};
+use crate::note::{Note, make_room, note_down, undo_to};
 use crate::{
-    AllRows, account, add_account, add_failed, id_use, next_entry_can_be_added,
-    rows_answer_look_ups, rows_spell_the_journal_they_show, status, transfer,
+    AllRows, account, add_account, add_expiry, add_failed, add_transfer, id_use, look_up,
+    next_entry_can_be_added, rows_answer_look_ups, rows_spell_the_journal_they_show, status,
+    transfer, transfers_leave_sums_in_range,
 };
 use std::alloc::Allocator;
 use std::marker::Model;
-use tf_journal::{IdUse, Mark, Status};
+use tf_journal::{Entry, IdUse, Mark, Status};
 use tf_records::{Account, Refusal, TIMESTAMP_MAX, Transfer};
 
 /// A ledger over 21 rows, with a note for each entry that isn't kept.
@@ -118,12 +119,43 @@ impl<S: AllRows + Drop, A: Allocator + Copy> Forest<S, A> {
         ensures addition { IsAddition (λ f. f.journal) (λ f. f.clock) (λ f. f.kept) self.old self.new (Entry.Account account) result }
         ensures err { OnErr result (self.new ≡ self.old) }
     {
-        if self.notes.reserve(1).is_err() {
-            return Err(Refusal::NoMemory);
-        }
+        make_room(&mut self.notes)?;
         next_entry_can_be_added();
         rows_spell_the_journal_they_show();
         let steps = add_account(&mut self.rows, self.alloc, &account)?;
+        note_down(&mut self.notes, Note::new(steps));
+        Ok(())
+    }
+
+    /// Stores a transfer, which the journal admits, by what is looked up for it: three look-ups in rows for each of its
+    /// accounts, and two for the pending transfer that it posts or voids. `NoMemory` leaves all as it was.
+    pub fn add_transfer(&mut self, transfer: Transfer) -> Result<(), Refusal>
+        requires { CanGrow self.old.journal (Entry.Transfer transfer) }
+        ensures addition { IsAddition (λ f. f.journal) (λ f. f.clock) (λ f. f.kept) self.old self.new (Entry.Transfer transfer) result }
+        ensures err { OnErr result (self.new ≡ self.old) }
+    {
+        make_room(&mut self.notes)?;
+        next_entry_can_be_added();
+        rows_spell_the_journal_they_show();
+        transfers_leave_sums_in_range();
+        let found = look_up(&self.rows, &Entry::Transfer(transfer));
+        let steps = add_transfer(&mut self.rows, self.alloc, &found, &transfer)?;
+        note_down(&mut self.notes, Note::new(steps));
+        Ok(())
+    }
+
+    /// Stores that the time of a pending transfer, named by its timestamp, is over, by what is looked up for it: two
+    /// look-ups in rows for the transfer, and three for each of its accounts. `NoMemory` leaves all as it was.
+    pub fn add_expiry(&mut self, timestamp: u64, pending: u64) -> Result<(), Refusal>
+        requires { CanGrow self.old.journal (Entry.Expiry timestamp pending) }
+        ensures addition { IsAddition (λ f. f.journal) (λ f. f.clock) (λ f. f.kept) self.old self.new (Entry.Expiry timestamp pending) result }
+        ensures err { OnErr result (self.new ≡ self.old) }
+    {
+        make_room(&mut self.notes)?;
+        next_entry_can_be_added();
+        rows_spell_the_journal_they_show();
+        let found = look_up(&self.rows, &Entry::Expiry { timestamp, pending });
+        let steps = add_expiry(&mut self.rows, self.alloc, &found, timestamp, pending)?;
         note_down(&mut self.notes, Note::new(steps));
         Ok(())
     }
@@ -134,9 +166,7 @@ impl<S: AllRows + Drop, A: Allocator + Copy> Forest<S, A> {
         ensures addition { IsAddition (λ f. f.journal) (λ f. f.clock) (λ f. f.kept) self.old self.new (Entry.Failed timestamp id) result }
         ensures err { OnErr result (self.new ≡ self.old) }
     {
-        if self.notes.reserve(1).is_err() {
-            return Err(Refusal::NoMemory);
-        }
+        make_room(&mut self.notes)?;
         next_entry_can_be_added();
         rows_spell_the_journal_they_show();
         let steps = add_failed(&mut self.rows, self.alloc, timestamp, id)?;

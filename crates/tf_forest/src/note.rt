@@ -1,11 +1,12 @@
 //! Notes that take the last entries of rows back.
-ghost use Rattle.std.specs.Prelude.{◌≡◌, ◌<◌, ◌≤◌, ◌-◌, ◌∷◌, ◌++◌, [], length, vec_capacity, vec_len};
+ghost use Rattle.std.specs.Prelude.{◌≡◌, ◌<◌, ◌≤◌, ◌-◌, ◌∷◌, ◌++◌, [], length, vec_capacity, vec_len, OnOk, IfErr};
 ghost use Rattle.tf_forest.specs.Changes.{CanStepAll, all_stepped};
 ghost use Rattle.tf_forest.specs.Forest.{AreRight, IsCut, ShowTheirJournal, journal_in};
 
 use crate::{RowSet, Step, take_steps};
 use std::alloc::Allocator;
 use std::marker::Model;
+use tf_records::Refusal;
 
 /// The steps that take one entry back. Contracts see their list.
 #[derive(Drop)]
@@ -58,6 +59,18 @@ pub(crate) fn undo_to<S: RowSet, A: Allocator>(
             note.take_back(rows);
         }
     }
+}
+
+/// Makes room for one more note. The only refusal is `NoMemory`, and it changes nothing.
+pub(crate) fn make_room<A: Allocator>(notes: &mut Vec<Note<A>, A>) -> Result<(), Refusal>
+    ensures room { OnOk result (vec_len notes.new < vec_capacity notes.new) }
+    ensures items { notes.new.items ≡ notes.old.items }
+    ensures refusal { IfErr result (λ refusal. refusal ≡ Refusal.NoMemory) }
+{
+    if notes.reserve(1).is_err() {
+        return Err(Refusal::NoMemory);
+    }
+    Ok(())
 }
 
 /// Puts a note behind the others. There has to be room for it.

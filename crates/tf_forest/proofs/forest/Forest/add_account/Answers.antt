@@ -34,7 +34,7 @@ invariant_of-self-2 g c =
     } in
     let noted : c.note_down.new.notes.items ≡ c.self.inside.notes.items ++ c.in_ok-steps.steps.items ∷ [] =
     c.note_down.ensures
-    ∙ ap (λ (ns : List (List Step)). ns ++ c.new.result ∷ []) c.reserve.ensures.items
+    ∙ ap (λ (ns : List (List Step)). ns ++ c.new.result ∷ []) c.make_room.ensures.items
     ∙ ap (λ (n : List Step). c.self.inside.notes.items ++ n ∷ []) c.new.ensures in
     subst (λ (ns : List (List Step)). IsForest g.S.RowSet.has_row g.S.RowSet.fits g.S.RowSet.takes_any new ns c.self.inside.kept) (sym noted)
     (grown_forest g.S.RowSet.has_row g.S.RowSet.fits g.S.RowSet.takes_any c.rows_spell_the_journal_they_show.ensures old new c.self.inside.notes.items c.in_ok-steps.steps.items c.self.inside.kept e c.self.invariant grows grown)
