@@ -18,3 +18,6 @@ pub mod Listed
 pub mod EditsOfRows
 pub mod CanChange
 pub mod Notes
+pub mod Added
+pub mod Sealed
+pub mod NoEntries

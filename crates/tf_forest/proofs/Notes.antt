@@ -199,3 +199,30 @@ empty_forest has fits takes_any spell rows empty = record {
   right = tt;
   count = ap (λ (j : List Entry). length j) (empty_journal spell rows empty);
 }
+
+-- rows with the same value at each key show the same journal
+same_shown : (old new : Parts) → ((r : Row) (key : Key) → value_of_part (new r) key ≡ value_of_part (old r) key) → Shows (content_in old) (journal_in old) → Shows (content_in new) (journal_in old)
+same_shown old new same shows r key = same r key ∙ shows r key
+
+pub same_journal : Spell → (old new : Parts) → ((r : Row) (key : Key) → value_of_part (new r) key ≡ value_of_part (old r) key) → ShowTheirJournal old → journal_in new ≡ journal_in old
+same_journal spell old new same was = spell new (journal_in old) was.sound (same_shown old new same was.shows)
+
+no_notes : (notes : List (List Step)) → length notes ≡ 0 → notes ≡ []
+no_notes [] none = refl
+no_notes (note ∷ notes) none = absurd (omega arith)
+
+-- a forest that keeps all its entries, over such rows
+pub same_forest : (has : Row → Bool) (fits : Row → Value → Bool) (takes_any : Row → Type 0) → Spell → (old new : Parts) (notes : List (List Step)) (kept : ℕ) → ((r : Row) (key : Key) → value_of_part (new r) key ≡ value_of_part (old r) key) → LogsHaveValues new
+    → IsForest has fits takes_any old notes kept → kept ≡ length (journal_in old) → IsForest has fits takes_any new notes kept
+same_forest has fits takes_any spell old new notes kept same values was all =
+    let journal = same_journal spell old new same was.shows in
+    let count = was.count in
+    record {
+      shows = record {
+        sound = subst IsSound (sym journal) was.shows.sound;
+        shows = subst (Shows (content_in new)) (sym journal) (same_shown old new same was.shows.shows);
+        values = values;
+      };
+      right = subst (λ (ns : List (List Step)). AreRight has fits takes_any ns new) (sym (no_notes notes (omega arith))) tt;
+      count = ap (λ (j : List Entry). length j) journal ∙ was.count;
+    }

@@ -10,11 +10,10 @@ use Rattle.tf_table.specs.Content.{entry_at, entry_of, first_some}
 use Rattle.tf_table.specs.Key.{key_cmp}
 use Rattle.tf_table.specs.Mutable.{given_back}
 use Rattle.tf_manifest.specs.declared.value.Value.{Value}
-use Rattle.tf_manifest.specs.Row.{lists_of}
-use Rattle.tf_manifest.specs.Whole.{Enters, Whole, row_at, with_back as with_back_of, with_entry as with_entry_of}
+use Rattle.tf_manifest.proofs.Entries.{with_row-here}
 use Rattle.tf_table.proofs.Logged.{given_back-is}
 use Rattle.tf_manifest.specs.declared.row.Row.{Row}
-use Rattle.tf_forest.specs.Parts.{Part, alone, no_part, place_of, part_by, seen_row, seen_rows, value_of_part, with_back, with_entry}
+use Rattle.tf_forest.specs.Parts.{alone, place_of, seen_row, seen_rows}
 
 module _ {V : Type 0} (seen : V → Value) where
   pub entry_at-seen : (key : Key) (rows : List (Key × Option V)) → entry_at key (seen_rows seen rows) ≡ option_map (option_map seen) (entry_at key rows)
@@ -75,45 +74,39 @@ module _ {V : Type 0} (seen : V → Value) where
   flatten-seen (Some None) = refl
   flatten-seen (Some (Some v)) = refl
 
-  pub value-seen : (key : Key) (whole : Whole V) → value_of_part (part_by seen whole) key ≡ option_map seen (row_at key whole)
-  value-seen key whole =
-      ap option_flatten (entry_of-seen key (whole.fresh ∷ lists_of whole.tables))
-      ∙ flatten-seen (entry_of key (whole.fresh ∷ lists_of whole.tables))
+  pub value-seen : (key : Key) (lists : List (List (Key × Option V))) → option_flatten (entry_of key (map (seen_rows seen) lists)) ≡ option_map seen (option_flatten (entry_of key lists))
+  value-seen key lists = ap option_flatten (entry_of-seen key lists) ∙ flatten-seen (entry_of key lists)
 
-  pub put-part : (key : Key) (stored : Option V) (entry : Option Value) (old new : Whole V) → new ≡ with_entry_of key stored old → option_map seen stored ≡ entry → part_by seen new ≡ with_entry key entry (part_by seen old)
-  put-part key stored entry old new e s =
-      ap (part_by seen) e
-      ∙ ap (λ (rs : List (Key × Option Value)). record (part_by seen old) { fresh = rs })
-      (with_row-seen key stored old.fresh ∙ ap (λ (x : Option Value). with_row key_cmp key x (seen_rows seen old.fresh)) s)
+  pub put-seen : (key : Key) (stored : Option V) (entry : Option Value) (old new : List (Key × Option V)) → new ≡ with_row key_cmp key stored old → option_map seen stored ≡ entry → seen_rows seen new ≡ with_row key_cmp key entry (seen_rows seen old)
+  put-seen key stored entry old new e s =
+      ap (seen_rows seen) e ∙ with_row-seen key stored old ∙ ap (λ (x : Option Value). with_row key_cmp key x (seen_rows seen old)) s
 
-  pub there-part : (key : Key) (stored : Option V) (old new : Whole V) → Enters key (Some stored) old new → IsSome (entry_at key (seen_rows seen new.fresh))
-  there-part key stored old new h = ap is_some (entry_at-seen key new.fresh ∙ ap (option_map (option_map seen)) h.here)
+  pub back-seen : (key : Key) (stored : Option (Option V)) (before : Option (Option Value)) (old new : List (Key × Option V)) → new ≡ given_back key stored old → option_map (option_map seen) stored ≡ before → seen_rows seen new ≡ given_back key before (seen_rows seen old)
+  back-seen key stored before old new e s =
+      ap (seen_rows seen) e ∙ given_back-seen key stored old ∙ ap (λ (x : Option (Option Value)). given_back key x (seen_rows seen old)) s
 
-  pub back-part : (key : Key) (stored : Option (Option V)) (before : Option (Option Value)) (old new : Whole V) → new ≡ with_back_of key stored old → option_map (option_map seen) stored ≡ before → part_by seen new ≡ with_back key before (part_by seen old)
-  back-part key stored before old new e s =
-      ap (part_by seen) e
-      ∙ ap (λ (rs : List (Key × Option Value)). record (part_by seen old) { fresh = rs })
-      (given_back-seen key stored old.fresh ∙ ap (λ (x : Option (Option Value)). given_back key x (seen_rows seen old.fresh)) s)
+  pub restored-seen : (key : Key) (entry : Option Value) (was : Option (Option V)) (before : Option (Option Value)) (old new : List (Key × Option V)) → seen_rows seen new ≡ with_row key_cmp key entry (seen_rows seen old) → IsRising key_cmp old → was ≡ entry_at key old → before ≡ option_map (option_map seen) was → given_back key before (seen_rows seen new) ≡ seen_rows seen old
+  restored-seen key entry was before old new put rising w s =
+      ap (given_back key before) put
+      ∙ given_back-is key entry before (seen_rows seen old) (rising-seen old rising)
+      (s ∙ ap (option_map (option_map seen)) w ∙ sym (entry_at-seen key old))
 
-  pub restored-part : (key : Key) (entry : Option Value) (was : Option (Option V)) (before : Option (Option Value)) (old new : Whole V) → part_by seen new ≡ with_entry key entry (part_by seen old) → IsRising key_cmp old.fresh → was ≡ entry_at key old.fresh → before ≡ option_map (option_map seen) was → with_back key before (part_by seen new) ≡ part_by seen old
-  restored-part key entry was before old new put rising w s =
-      ap (with_back key before) put
-      ∙ ap (λ (rs : List (Key × Option Value)). record (part_by seen old) { fresh = rs })
-      (given_back-is key entry before (seen_rows seen old.fresh) (rising-seen old.fresh rising)
-      (s ∙ ap (option_map (option_map seen)) w ∙ sym (entry_at-seen key old.fresh)))
-
-  pub none-part : (key : Key) (whole : Whole V) → entry_at key (part_by seen whole).fresh ≡ None → entry_at key whole.fresh ≡ None
-  none-part key whole none = no_entry (entry_at key whole.fresh) (sym (entry_at-seen key whole.fresh) ∙ none) where
+  pub none-seen : (key : Key) (rows : List (Key × Option V)) → entry_at key (seen_rows seen rows) ≡ None → entry_at key rows ≡ None
+  none-seen key rows none = no_entry (entry_at key rows) (sym (entry_at-seen key rows) ∙ none) where
     no_entry : (x : Option (Option V)) → option_map (option_map seen) x ≡ None → x ≡ None
     no_entry None e = refl
     no_entry (Some y) e = absurd (cc)
 
-  pub some-part : (key : Key) (whole : Whole V) → IsSome (entry_at key (part_by seen whole).fresh) → IsSome (entry_at key whole.fresh)
-  some-part key whole some = has_entry (entry_at key whole.fresh) (sym (ap is_some (entry_at-seen key whole.fresh)) ∙ some) where
+  pub some-seen : (key : Key) (rows : List (Key × Option V)) → IsSome (entry_at key (seen_rows seen rows)) → IsSome (entry_at key rows)
+  some-seen key rows some = has_entry (entry_at key rows) (sym (ap is_some (entry_at-seen key rows)) ∙ some) where
     has_entry : (x : Option (Option V)) → is_some (option_map (option_map seen) x) ≡ true → is_some x ≡ true
     has_entry None e = e
     has_entry (Some y) e = refl
 
--- of one row alone, what its own row has is what it has
-pub new_alone : (place : ℕ) (part : Part) (r : Row) (key : Key) → (place_of r == place) ≡ true → entry_at key (alone place part r).fresh ≡ None → entry_at key part.fresh ≡ None
-new_alone place part r key own none = subst (λ (b : Bool). entry_at key (cond b part no_part).fresh ≡ None) own none
+-- of one table alone, what its own row has is what it has
+pub new_alone : (place : ℕ) (rows : List (Key × Option Value)) (r : Row) (key : Key) → (place_of r == place) ≡ true → entry_at key (alone place rows r) ≡ None → entry_at key rows ≡ None
+new_alone place rows r key own none = subst (λ (b : Bool). entry_at key (cond b rows []) ≡ None) own none
+
+-- a table with an entry has one at its key
+pub there-put : (key : Key) (entry : Option Value) (rows : List (Key × Option Value)) → IsSome (entry_at key (with_row key_cmp key entry rows))
+there-put key entry rows = ap is_some (with_row-here key entry rows)

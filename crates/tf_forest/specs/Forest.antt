@@ -7,6 +7,7 @@ use Rattle.tf_manifest.specs.declared.row.Row.{Row}
 use Rattle.tf_manifest.specs.declared.value.Value.{Value}
 use Rattle.tf_manifest.specs.Rows.{Pair}
 use Rattle.tf_manifest.specs.Shows.{Shows, journal_of}
+use Rattle.tf_manifest.specs.View as manifest
 use Rattle.tf_forest.specs.declared.change.Step.{Step}
 use Rattle.tf_forest.specs.Changes.{CanStepAll, all_stepped}
 use Rattle.tf_forest.specs.Nest.{LogsHaveValues}
@@ -58,8 +59,10 @@ pub record IsCut (old new : List Entry) (count : ℕ) : Type 0 where
   pub is : old ≡ new ++ undone
   pub many : length undone ≡ count
 
--- what contracts see of a forest: its journal, the clock, and how many entries stand for good
+-- what contracts see of a forest: its journal, the sealed tables of its rows, the clock, and how many entries stand for
+-- good
 pub record View : Type 0 where
   pub journal : List Entry
+  pub sealed : manifest.View
   pub clock : ℕ
   pub kept : ℕ

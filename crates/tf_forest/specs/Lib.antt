@@ -8,3 +8,4 @@ pub mod Next
 pub mod Range
 pub mod Nest
 pub mod Forest
+pub mod Every

@@ -9,8 +9,9 @@ use Rattle.tf_table.specs.Mutable.{given_back}
 use Rattle.tf_manifest.specs.declared.row.Row.{Row}
 use Rattle.tf_manifest.specs.declared.row.Row.TheVariants as row
 use Rattle.tf_manifest.specs.declared.value.Value.{Value}
+use Rattle.tf_manifest.specs.Kinds.{kind_of}
 use Rattle.tf_manifest.specs.Row.{lists_of, value_in}
-use Rattle.tf_manifest.specs.Whole.{Whole}
+use Rattle.tf_manifest.specs.View.{View, tables_by, value_by}
 
 -- a row: the entries of its mutable table, and those of each sealed table, newest first
 pub record Part : Type 0 where
@@ -24,10 +25,6 @@ seen_row seen r = (r.0, option_map seen r.1)
 -- entries as those of a row
 abbrev pub seen_rows : {V : Type 0} → (V → Value) → List (Key × Option V) → List (Key × Option Value)
 seen_rows seen rows = map (seen_row seen) rows
-
--- a row of any kind of value
-abbrev pub part_by : {V : Type 0} → (V → Value) → Whole V → Part
-part_by seen whole = record { fresh = seen_rows seen whole.fresh; below = map (seen_rows seen) (lists_of whole.tables) }
 
 -- no entries
 abbrev pub no_part : Part
@@ -73,13 +70,37 @@ with_back key before part = record part { fresh = given_back key before part.fre
 abbrev pub Parts : Type 0
 Parts = Row → Part
 
--- one row alone, which stands at this place
-abbrev pub alone : ℕ → Part → Parts
-alone place part r = if place_of r == place then part else no_part
+-- the entries of mutable tables, by the names of their rows
+abbrev pub Entries : Type 0
+Entries = Row → List (Key × Option Value)
 
--- rows of two sets, where the first says which are its own
-abbrev pub joined : (Row → Bool) → Parts → Parts → Parts
+-- one mutable table alone, whose row stands at this place
+abbrev pub alone : ℕ → List (Key × Option Value) → Entries
+alone place rows r = if place_of r == place then rows else []
+
+-- mutable tables of two sets, where the first says which are its own
+abbrev pub joined : (Row → Bool) → Entries → Entries → Entries
 joined first own others r = if first r then own r else others r
+
+-- what the sealed tables of a manifest have for a row, newest first
+abbrev pub sealed_in : View → Row → List (List (Key × Option Value))
+sealed_in view r = map (seen_rows (value_by (kind_of r))) (lists_of (tables_by view (kind_of r)))
+
+-- mutable tables in front of the sealed ones of a manifest
+abbrev pub parts_of : Entries → View → Parts
+parts_of fresh view r = record { fresh = fresh r; below = sealed_in view r }
+
+-- a mutable table has an entry of a key, which had this one before; each other is as it was
+pub record PutsEntry (r : Row) (key : Key) (entry : Option Value) (before : Option (Option Value)) (old new : Entries) : Type 0 where
+  pub here : new r ≡ with_row key_cmp key entry (old r)
+  pub there : IsSome (entry_at key (new r))
+  pub restores : given_back key before (new r) ≡ old r
+  pub elsewhere : (other : Row) → other ≢ r → new other ≡ old other
+
+-- a key of a mutable table has the entry back that it had before, or none; each other table is as it was
+pub record GivesBack (r : Row) (key : Key) (before : Option (Option Value)) (old new : Entries) : Type 0 where
+  pub here : new r ≡ given_back key before (old r)
+  pub elsewhere : (other : Row) → other ≢ r → new other ≡ old other
 
 -- a row has an entry of a key, which had this one before; each other row is as it was
 pub record IsPut (r : Row) (key : Key) (entry : Option Value) (before : Option (Option Value)) (old new : Parts) : Type 0 where

@@ -1,7 +1,9 @@
--- Sums that a transfer leaves in range.
-use Rattle.std.specs.Prelude.{ℕ, ◌≤◌, IfSome}
+-- Sums that an entry leaves in range.
+use Rattle.std.specs.Prelude.{ℕ, ◌≤◌, IfSome, ⊤}
 use Rattle.tf_records.specs.declared.sums.Sums.{Sums}
 use Rattle.tf_records.specs.declared.transfer.Transfer.{Transfer}
+use Rattle.tf_journal.specs.declared.entry.Entry.{Entry}
+use Rattle.tf_journal.specs.declared.entry.Entry.TheVariants as entry
 use Rattle.tf_journal.specs.declared.side.Side.{Side}
 use Rattle.tf_journal.specs.declared.side.Side.TheVariants.{Debit, Credit}
 use Rattle.tf_journal.specs.Balances.{greatest_amount}
@@ -24,6 +26,11 @@ pub record IsInRange (side : Side) (sums : Sums) : Type 0 where
   pub posted : posted_in side sums ≤ greatest_amount
 
 -- the sums of a transfer's accounts don't, after it
-pub record LeavesInRange (found : Found) (transfer : Transfer) : Type 0 where
+pub record MovesInRange (found : Found) (transfer : Transfer) : Type 0 where
   pub debit : IfSome found.debit (λ party. IsInRange Debit (state_after Debit transfer found.settled party.state).sums)
   pub credit : IfSome found.credit (λ party. IsInRange Credit (state_after Credit transfer found.settled party.state).sums)
+
+-- nor do those of any entry's accounts: an account begins with sums of 0, and an expiry makes them smaller
+abbrev pub LeavesInRange : Found → Entry → Type 0
+LeavesInRange found (entry.Transfer transfer) = MovesInRange found transfer
+LeavesInRange found _ = ⊤

@@ -1,14 +1,14 @@
-//! Sets that have all rows.
+//! Mutable tables of all rows.
 ghost use Rattle.std.specs.Prelude.{IsTrue};
 ghost use Rattle.tf_forest.specs.Nest.{IsTree, fits_row};
 ghost use Rattle.tf_manifest.specs.declared.row.Row.{Row};
 ghost use Rattle.tf_manifest.specs.declared.value.Value.{Value};
 
-use crate::RowSet;
+use crate::MutableRows;
 
-/// All 21 rows, each of its own kind of value. The mutable tables of account_ids, account_sums, transfer_ids,
+/// The mutable tables of all 21 rows, each of its own kind of value. Those of account_ids, account_sums, transfer_ids,
 /// pending_status and expiry take an entry for any key.
-pub trait AllRows: RowSet {
+pub trait AllRows: MutableRows {
     /// No row is missing.
     ghost has_all: { (row : Row) → IsTrue (Self.has_row row) };
 

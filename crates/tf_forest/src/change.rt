@@ -2,8 +2,7 @@
 ghost use Rattle.std.specs.Prelude.{◌≡◌, IfOk, IfErr, OnOk, OnErr};
 ghost use Rattle.tf_forest.specs.Changes.{CanChange, CanChangeAll, CanStepAll, all_changed, all_stepped, changed, present};
 
-use crate::RowSet;
-use crate::part::Before;
+use crate::{Before, RowSet};
 use std::alloc::Allocator;
 use tf_manifest::{Row, Value};
 use tf_records::Refusal;
@@ -37,6 +36,7 @@ pub fn make_changes<S: RowSet, A: Allocator>(
     ensures rows { OnOk result (S.parts set.new ≡ all_changed (present changes.now) (S.parts set.old)) }
     ensures steps { IfOk result (λ steps. CanStepAll S.has_row S.fits S.takes_any steps.items (S.parts set.new)) }
     ensures back { IfOk result (λ steps. all_stepped steps.items (S.parts set.new) ≡ S.parts set.old) }
+    ensures sealed { S.sealed set.new ≡ S.sealed set.old }
     ensures err { OnErr result (S.parts set.new ≡ S.parts set.old) }
     ensures refusal { IfErr result (λ refusal. refusal ≡ Refusal.NoMemory) }
 {
@@ -68,6 +68,7 @@ fn make_change<S: RowSet, A: Allocator>(
     ensures rows { OnOk result (S.parts set.new ≡ changed change (S.parts set.old)) }
     ensures steps { CanStepAll S.has_row S.fits S.takes_any steps.new.items (S.parts set.new) }
     ensures back { all_stepped steps.new.items (S.parts set.new) ≡ all_stepped steps.old.items (S.parts set.old) }
+    ensures sealed { S.sealed set.new ≡ S.sealed set.old }
     ensures refusal { IfErr result (λ refusal. refusal ≡ Refusal.NoMemory) }
 {
     if steps.reserve(1).is_err() {
@@ -88,7 +89,8 @@ fn make_change<S: RowSet, A: Allocator>(
 /// Takes changes back, the last one first. It takes no memory.
 pub fn take_steps<S: RowSet, A: Allocator>(set: &mut S, steps: &mut Vec<Step, A>)
     requires { CanStepAll S.has_row S.fits S.takes_any steps.old.items (S.parts set.old) }
-    ensures { S.parts set.new ≡ all_stepped steps.old.items (S.parts set.old) }
+    ensures rows { S.parts set.new ≡ all_stepped steps.old.items (S.parts set.old) }
+    ensures sealed { S.sealed set.new ≡ S.sealed set.old }
 {
     while let Some(step) = steps.pop() {
         set.take_back(step.row, &step.key, step.before);

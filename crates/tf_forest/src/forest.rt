@@ -1,22 +1,25 @@
 //! The ledger whose journal its rows spell.
 ghost use Rattle.std.specs.Prelude.{◌≡◌, ◌≤◌, [], length, take, OnErr};
 ghost use Rattle.tf_forest.specs.Forest.{ShowTheirJournal, journal_in};
-ghost use Rattle.tf_forest.specs.Nest.{AreEmpty};
+ghost use Rattle.tf_forest.specs.Parts.{parts_of};
 ghost use Rattle.tf_journal.specs.declared.entry.Entry.{Entry};
 ghost use Rattle.tf_journal.specs.Journal.{IsUpTo};
 ghost use Rattle.tf_journal.specs.Ledger.{CanGrow, IsAddition};
 ghost use Rattle.tf_journal.specs.Lookup.{id_use_of, shown_with_id, transfer_with_id};
 ghost use Rattle.tf_journal.specs.Status.{status_at};
+ghost use Rattle.tf_manifest.specs.Registries.{AreShelves};
+ghost use Rattle.tf_manifest.specs.View.{no_tables};
 
 use crate::note::{Note, make_room, note_down, undo_to};
 use crate::{
-    AllRows, account, add_account, add_expiry, add_failed, add_transfer, id_use, look_up,
+    AllRows, EmptyRows, Rows, account, add_entry, entries_leave_sums_in_range, id_use, look_up,
     next_entry_can_be_added, rows_answer_look_ups, rows_spell_the_journal_they_show, status,
-    transfer, transfers_leave_sums_in_range,
+    transfer,
 };
 use std::alloc::Allocator;
 use std::marker::Model;
 use tf_journal::{Entry, IdUse, Mark, Status};
+use tf_manifest::{Naming, Registries};
 use tf_records::{Account, Refusal, TIMESTAMP_MAX, Transfer};
 
 /// A ledger over 21 rows, with a note for each entry that isn't kept.
@@ -24,38 +27,44 @@ use tf_records::{Account, Refusal, TIMESTAMP_MAX, Transfer};
 /// Its journal is the one that the rows spell. Contracts see the journal, the clock and the kept length. A look-up takes a
 /// few look-ups in rows, whatever the journal's length.
 #[derive(Drop)]
-pub struct Forest<S: AllRows + Drop, A: Allocator + Copy> {
-    rows: S,
+pub struct Forest<'r, F: AllRows + Drop, A: Allocator + Copy, N: Naming> {
+    pub(crate) rows: Rows<'r, F, A, N>,
     /// The oldest first.
-    notes: Vec<Note<A>, A>,
-    clock: u64,
-    kept: usize,
-    alloc: A,
+    pub(crate) notes: Vec<Note<A>, A>,
+    pub(crate) clock: u64,
+    pub(crate) kept: usize,
+    pub(crate) alloc: A,
 }
 
-impl<S: AllRows + Drop, A: Allocator + Copy> Model for Forest<S, A> {
+impl<'r, F: AllRows + Drop, A: Allocator + Copy, N: Naming> Model for Forest<'r, F, A, N> {
     ghost use Rattle.tf_forest.specs.Forest.{View};
 
     ghost Value = { View };
 
     ghost use Rattle.tf_forest.specs.Forest.{IsForest, journal_in};
+    ghost use Rattle.tf_forest.specs.Parts.{parts_of};
 
-    ghost view = { λ f. record { journal = journal_in (S.parts f.rows); clock = f.clock; kept = f.kept } };
+    ghost view = { λ f. record { journal = journal_in (parts_of (F.entries f.rows.fresh) f.rows.manifest); sealed = f.rows.manifest; clock = f.clock; kept = f.kept } };
 
-    ghost invariant = { λ f. IsForest S.has_row S.fits S.takes_any (S.parts f.rows) f.notes.items f.kept };
+    ghost invariant = { λ f. IsForest F.has_row F.fits F.takes_any (parts_of (F.entries f.rows.fresh) f.rows.manifest) f.notes.items f.kept };
 }
 
-impl<S: AllRows + Drop, A: Allocator + Copy> Forest<S, A> {
-    /// The empty ledger, at clock 0, over rows that have nothing. It takes no memory.
-    pub fn new(alloc: A, rows: S) -> Forest<S, A>
-        requires { AreEmpty (S.parts rows) }
+impl<'r, F: AllRows + Drop, A: Allocator + Copy, N: Naming> Forest<'r, F, A, N> {
+    /// The empty ledger, at clock 0. It takes no memory.
+    ///
+    /// Its rows grow on `alloc`, and their sealed tables stand in these registries.
+    pub fn new(alloc: A, registries: &'r Registries<A>) -> Forest<'r, F, A, N>
+    where
+        F: EmptyRows<A>,
+        requires { AreShelves N.shelf registries.now }
         ensures journal { result.journal ≡ [] }
         ensures clock { result.clock ≡ 0 }
         ensures kept { result.kept ≡ 0 }
+        ensures sealed { result.sealed ≡ no_tables registries.now.limit }
     {
         rows_spell_the_journal_they_show();
         Forest {
-            rows,
+            rows: Rows::new(F::empty(alloc), registries),
             notes: Vec::new(alloc),
             clock: 0,
             kept: 0,
@@ -65,10 +74,11 @@ impl<S: AllRows + Drop, A: Allocator + Copy> Forest<S, A> {
 
     /// The rows, which show the journal.
     #[inline]
-    pub fn rows(&self) -> &S
-        ensures journal { journal_in (S.parts result.now) ≡ self.now.journal }
-        ensures shows { ShowTheirJournal (S.parts result.now) }
+    pub fn rows(&self) -> &Rows<'r, F, A, N>
+        ensures journal { journal_in (parts_of (F.entries result.now.fresh) result.now.manifest) ≡ self.now.journal }
+        ensures shows { ShowTheirJournal (parts_of (F.entries result.now.fresh) result.now.manifest) }
         ensures kept { self.now.kept ≤ length self.now.journal }
+        ensures sealed { result.now.manifest ≡ self.now.sealed }
     {
         &self.rows
     }
@@ -117,14 +127,10 @@ impl<S: AllRows + Drop, A: Allocator + Copy> Forest<S, A> {
     pub fn add_account(&mut self, account: Account) -> Result<(), Refusal>
         requires { CanGrow self.old.journal (Entry.Account account) }
         ensures addition { IsAddition (λ f. f.journal) (λ f. f.clock) (λ f. f.kept) self.old self.new (Entry.Account account) result }
+        ensures sealed { self.new.sealed ≡ self.old.sealed }
         ensures err { OnErr result (self.new ≡ self.old) }
     {
-        make_room(&mut self.notes)?;
-        next_entry_can_be_added();
-        rows_spell_the_journal_they_show();
-        let steps = add_account(&mut self.rows, self.alloc, &account)?;
-        note_down(&mut self.notes, Note::new(steps));
-        Ok(())
+        self.add(&Entry::Account(account))
     }
 
     /// Stores a transfer, which the journal admits, by what is looked up for it: three look-ups in rows for each of its
@@ -132,16 +138,10 @@ impl<S: AllRows + Drop, A: Allocator + Copy> Forest<S, A> {
     pub fn add_transfer(&mut self, transfer: Transfer) -> Result<(), Refusal>
         requires { CanGrow self.old.journal (Entry.Transfer transfer) }
         ensures addition { IsAddition (λ f. f.journal) (λ f. f.clock) (λ f. f.kept) self.old self.new (Entry.Transfer transfer) result }
+        ensures sealed { self.new.sealed ≡ self.old.sealed }
         ensures err { OnErr result (self.new ≡ self.old) }
     {
-        make_room(&mut self.notes)?;
-        next_entry_can_be_added();
-        rows_spell_the_journal_they_show();
-        transfers_leave_sums_in_range();
-        let found = look_up(&self.rows, &Entry::Transfer(transfer));
-        let steps = add_transfer(&mut self.rows, self.alloc, &found, &transfer)?;
-        note_down(&mut self.notes, Note::new(steps));
-        Ok(())
+        self.add(&Entry::Transfer(transfer))
     }
 
     /// Stores that the time of a pending transfer, named by its timestamp, is over, by what is looked up for it: two
@@ -149,27 +149,38 @@ impl<S: AllRows + Drop, A: Allocator + Copy> Forest<S, A> {
     pub fn add_expiry(&mut self, timestamp: u64, pending: u64) -> Result<(), Refusal>
         requires { CanGrow self.old.journal (Entry.Expiry timestamp pending) }
         ensures addition { IsAddition (λ f. f.journal) (λ f. f.clock) (λ f. f.kept) self.old self.new (Entry.Expiry timestamp pending) result }
+        ensures sealed { self.new.sealed ≡ self.old.sealed }
         ensures err { OnErr result (self.new ≡ self.old) }
     {
-        make_room(&mut self.notes)?;
-        next_entry_can_be_added();
-        rows_spell_the_journal_they_show();
-        let found = look_up(&self.rows, &Entry::Expiry { timestamp, pending });
-        let steps = add_expiry(&mut self.rows, self.alloc, &found, timestamp, pending)?;
-        note_down(&mut self.notes, Note::new(steps));
-        Ok(())
+        self.add(&Entry::Expiry { timestamp, pending })
     }
 
     /// Stores that a transfer with this id failed for a passing reason. `NoMemory` leaves all as it was.
     pub fn add_failed(&mut self, timestamp: u64, id: u128) -> Result<(), Refusal>
         requires { CanGrow self.old.journal (Entry.Failed timestamp id) }
         ensures addition { IsAddition (λ f. f.journal) (λ f. f.clock) (λ f. f.kept) self.old self.new (Entry.Failed timestamp id) result }
+        ensures sealed { self.new.sealed ≡ self.old.sealed }
+        ensures err { OnErr result (self.new ≡ self.old) }
+    {
+        self.add(&Entry::Failed { timestamp, id })
+    }
+
+    /// Stores an entry, which the journal admits, and notes how it is taken back. `NoMemory` leaves all as it was.
+    fn add(&mut self, entry: &Entry) -> Result<(), Refusal>
+        requires { CanGrow self.old.journal entry.now }
+        ensures addition { IsAddition (λ f. f.journal) (λ f. f.clock) (λ f. f.kept) self.old self.new entry.now result }
+        ensures sealed { self.new.sealed ≡ self.old.sealed }
         ensures err { OnErr result (self.new ≡ self.old) }
     {
         make_room(&mut self.notes)?;
         next_entry_can_be_added();
         rows_spell_the_journal_they_show();
-        let steps = add_failed(&mut self.rows, self.alloc, timestamp, id)?;
+        entries_leave_sums_in_range();
+        let found = look_up(&self.rows, entry);
+        let steps = match add_entry(&mut self.rows, self.alloc, &found, entry) {
+            Ok(steps) => steps,
+            Err(refusal) => return Err(refusal),
+        };
         note_down(&mut self.notes, Note::new(steps));
         Ok(())
     }
@@ -193,6 +204,7 @@ impl<S: AllRows + Drop, A: Allocator + Copy> Forest<S, A> {
         ensures cut { self.new.journal ≡ take to.length self.old.journal }
         ensures clock_kept { self.new.clock ≡ self.old.clock }
         ensures length_kept { self.new.kept ≡ self.old.kept }
+        ensures sealed { self.new.sealed ≡ self.old.sealed }
     {
         undo_to(&mut self.rows, &mut self.notes, to.length - self.kept);
     }
@@ -204,6 +216,7 @@ impl<S: AllRows + Drop, A: Allocator + Copy> Forest<S, A> {
         ensures same { self.new.journal ≡ self.old.journal }
         ensures clock { self.new.clock ≡ moment }
         ensures all_kept { self.new.kept ≡ length self.old.journal }
+        ensures sealed { self.new.sealed ≡ self.old.sealed }
     {
         self.kept += self.notes.len();
         self.notes.clear();

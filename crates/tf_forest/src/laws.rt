@@ -12,7 +12,6 @@ ghost use Rattle.tf_forest.specs.LookUps.{found_read, party_read, pending_read, 
 ghost use Rattle.tf_forest.specs.Next.{changes, content_in};
 ghost use Rattle.tf_forest.specs.Parts.{Parts};
 ghost use Rattle.tf_forest.specs.Range.{LeavesInRange};
-ghost use Rattle.tf_records.specs.declared.transfer.Transfer.{Transfer};
 ghost use Rattle.tf_journal.specs.declared.entry.Entry.{Entry};
 ghost use Rattle.tf_journal.specs.Lawful.{IsSound};
 ghost use Rattle.tf_journal.specs.Ledger.{CanGrow};
@@ -69,10 +68,10 @@ pub fn rows_show_the_next_entry()
     // The changes of an entry are its edits, row by row.
 }
 
-/// The sums of a journal's next transfer's accounts, computed from what was looked up for it, are in range: neither what
-/// is pending nor what is posted on a side passes `2^128 - 1`. Does nothing.
-pub fn transfers_leave_sums_in_range()
-    ensures { (journal : List Entry) (transfer : Transfer) → IsSound journal → CanGrow journal (Entry.Transfer transfer) → LeavesInRange (found_for journal (Entry.Transfer transfer)) transfer }
+/// The sums of the accounts of a journal's next entry, computed from what was looked up for it, are in range: neither
+/// what is pending nor what is posted on a side passes `2^128 - 1`. Does nothing.
+pub fn entries_leave_sums_in_range()
+    ensures { (journal : List Entry) (e : Entry) → IsSound journal → CanGrow journal e → LeavesInRange (found_for journal e) e }
 {
     rows_change_by_edits();
     rows_are_maps();

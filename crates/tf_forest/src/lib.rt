@@ -4,37 +4,47 @@
 #![tactic(auto)]
 
 mod account_states;
+mod accounts;
 mod add;
 mod additions;
 mod all_rows;
 mod change;
+mod compaction;
+mod empty;
+mod entry;
 mod expiries;
 mod forest;
 mod found;
 mod held;
 mod laws;
 mod look_ups;
+mod mutable_rows;
+mod mutable_tables;
 mod note;
-mod part;
 mod row_change;
 mod row_set;
+mod rows;
 mod spelled;
 mod transfers;
 
-pub use add::{add_account, add_failed};
+pub use add::add_entry;
 pub use additions::next_entry_can_be_added;
 pub use all_rows::AllRows;
 pub use change::{Change, Step, make_changes, take_steps};
-pub use expiries::add_expiry;
+pub use empty::EmptyRows;
+pub use entry::Before;
 pub use forest::Forest;
 pub use found::{Found, Party, look_up};
 pub use held::Held;
 pub use laws::{
-    rows_answer_look_ups, rows_change_by_edits, rows_go_back_by_edits, rows_show_the_next_entry,
-    transfers_leave_sums_in_range,
+    entries_leave_sums_in_range, rows_answer_look_ups, rows_change_by_edits, rows_go_back_by_edits,
+    rows_show_the_next_entry,
 };
 pub use look_ups::{account, id_use, party, pending, status, transfer};
-pub use part::Before;
-pub use row_set::{Both, One, RowSet};
+pub use mutable_rows::{Both, MutableRows, One};
+pub use mutable_tables::{
+    AccountTables, IndexOf, LogOf, MutableTables, PendingTables, TransferTables, TreeOf,
+};
+pub use row_set::RowSet;
+pub use rows::Rows;
 pub use spelled::rows_spell_the_journal_they_show;
-pub use transfers::add_transfer;

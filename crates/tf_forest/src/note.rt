@@ -33,7 +33,8 @@ impl<A: Allocator> Note<A> {
     /// Takes the entry back. It takes no memory.
     fn take_back<S: RowSet>(self, rows: &mut S)
         requires { CanStepAll S.has_row S.fits S.takes_any self (S.parts rows.old) }
-        ensures { S.parts rows.new ≡ all_stepped self (S.parts rows.old) }
+        ensures rows { S.parts rows.new ≡ all_stepped self (S.parts rows.old) }
+        ensures sealed { S.sealed rows.new ≡ S.sealed rows.old }
     {
         let mut steps = self.steps;
         take_steps(rows, &mut steps);
@@ -53,6 +54,7 @@ pub(crate) fn undo_to<S: RowSet, A: Allocator>(
     ensures right { AreRight S.has_row S.fits S.takes_any notes.new.items (S.parts rows.new) }
     ensures left { length notes.new.items ≡ left }
     ensures cut { IsCut (journal_in (S.parts rows.old)) (journal_in (S.parts rows.new)) (length notes.old.items - left) }
+    ensures sealed { S.sealed rows.new ≡ S.sealed rows.old }
 {
     while notes.len() > left {
         if let Some(note) = notes.pop() {

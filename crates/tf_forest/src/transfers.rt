@@ -1,22 +1,18 @@
-//! Transfers added to rows.
-ghost use Rattle.std.specs.Prelude.{◌≡◌, ◌++◌, ◌∷◌, [], List, map, IfOk, IfErr, OnOk, OnErr};
+//! What a transfer changes in rows.
+ghost use Rattle.std.specs.Prelude.{◌≡◌, map};
 ghost use Rattle.tf_journal.specs.declared.entry.Entry.{Entry};
-ghost use Rattle.tf_journal.specs.Lawful.{IsSound};
-ghost use Rattle.tf_journal.specs.Ledger.{CanGrow};
 ghost use Rattle.tf_manifest.specs.declared.row.Row.{Row};
-ghost use Rattle.tf_manifest.specs.Shows.{Shows};
-ghost use Rattle.tf_forest.specs.Changes.{CanChangeAll, CanStepAll, all_changed, all_stepped, listed, present};
-ghost use Rattle.tf_forest.specs.Edits.{expiry_edits, found_for, status_edits};
-ghost use Rattle.tf_forest.specs.Next.{change_of, changes_by, content_in};
-ghost use Rattle.tf_forest.specs.Range.{LeavesInRange};
+ghost use Rattle.tf_forest.specs.Changes.{listed, present};
+ghost use Rattle.tf_forest.specs.Edits.{expiry_edits, status_edits};
+ghost use Rattle.tf_forest.specs.Next.{change_of, changes_by};
+ghost use Rattle.tf_forest.specs.Range.{MovesInRange};
 
 use crate::account_states::party_after;
 use crate::row_change::{expiry_change, history_change, index, put, state_change, status_change};
-use crate::{Change, Found, RowSet, Step, make_changes, rows_show_the_next_entry};
-use std::alloc::Allocator;
+use crate::{Change, Found};
 use tf_journal::{Side, Status, is_pending, is_post};
 use tf_manifest::{Row, Value};
-use tf_records::{Refusal, Transfer};
+use tf_records::Transfer;
 
 /// The status that a transfer gives the pending transfer that it settles, if one, or has itself where it is pending.
 fn status_after(transfer: &Transfer, settled: &Option<Transfer>) -> Option<Change>
@@ -42,8 +38,8 @@ fn expiry_after(transfer: &Transfer, settled: &Option<Transfer>) -> Option<Chang
 }
 
 /// What a transfer changes, by what was looked up for it.
-fn transfer_changes(found: &Found, transfer: &Transfer) -> [Option<Change>; 15]
-    requires { LeavesInRange found.now transfer.now }
+pub(crate) fn transfer_changes(found: &Found, transfer: &Transfer) -> [Option<Change>; 15]
+    requires { MovesInRange found.now transfer.now }
     ensures { present result ≡ changes_by found.now (Entry.Transfer transfer.now) }
 {
     let at = transfer.timestamp;
@@ -72,28 +68,4 @@ fn transfer_changes(found: &Found, transfer: &Transfer) -> [Option<Change>; 15]
         debit_history,
         credit_history,
     ]
-}
-
-/// Adds a transfer to rows that show a journal which admits it, by what was looked up for it, and gives the steps that
-/// take it back.
-///
-/// The sums of its accounts are in range afterwards: `transfers_leave_sums_in_range` says so of what a journal that
-/// admits it has. The only refusal is `NoMemory`, and each row is then as it was.
-pub fn add_transfer<S: RowSet, A: Allocator>(
-    rows: &mut S,
-    alloc: A,
-    found: &Found,
-    transfer: &Transfer,
-) -> Result<Vec<Step, A>, Refusal>
-    requires range { LeavesInRange found.now transfer.now }
-    requires can { CanChangeAll S.has_row S.fits S.takes_any (changes_by found.now (Entry.Transfer transfer.now)) (S.parts rows.old) }
-    ensures shows { (journal : List Entry) → IsSound journal → CanGrow journal (Entry.Transfer transfer.now) → found.now ≡ found_for journal (Entry.Transfer transfer.now) → Shows (content_in (S.parts rows.old)) journal → OnOk result (Shows (content_in (S.parts rows.new)) (journal ++ Entry.Transfer transfer.now ∷ [])) }
-    ensures rows { OnOk result (S.parts rows.new ≡ all_changed (changes_by found.now (Entry.Transfer transfer.now)) (S.parts rows.old)) }
-    ensures steps { IfOk result (λ steps. CanStepAll S.has_row S.fits S.takes_any steps.items (S.parts rows.new)) }
-    ensures back { IfOk result (λ steps. all_stepped steps.items (S.parts rows.new) ≡ S.parts rows.old) }
-    ensures err { OnErr result (S.parts rows.new ≡ S.parts rows.old) }
-    ensures refusal { IfErr result (λ refusal. refusal ≡ Refusal.NoMemory) }
-{
-    rows_show_the_next_entry();
-    make_changes(rows, alloc, &transfer_changes(found, transfer))
 }

@@ -8,4 +8,5 @@ invariant-loop-change g l = record {
   steps : CanStepAll g.S.RowSet.has_row g.S.RowSet.fits g.S.RowSet.takes_any l.steps.items (g.S.RowSet.parts l.set);
   back : all_stepped l.steps.items (g.S.RowSet.parts l.set) ≡ g.S.RowSet.parts l.fn.set;
   rows : all_changed (present (drop l.change-index l.changes)) (g.S.RowSet.parts l.set) ≡ all_changed (present l.changes) (g.S.RowSet.parts l.fn.set);
+  sealed : g.S.RowSet.sealed l.set ≡ g.S.RowSet.sealed l.fn.set;
 }

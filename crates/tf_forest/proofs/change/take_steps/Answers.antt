@@ -19,7 +19,7 @@ take_back-requires-clause-fits g c =
 
 pub loop-step-preserved : goal.loop-step-preserved
 loop-step-preserved g c =
-    let taken = taken_stepped c.in-Some.step (g.S.RowSet.parts c.loop-step.set) (g.S.RowSet.parts c.take_back.new.self) c.take_back.ensures in
+    let taken = taken_stepped c.in-Some.step (g.S.RowSet.parts c.loop-step.set) (g.S.RowSet.parts c.take_back.new.self) c.take_back.ensures.back in
     let left = popped g.S.RowSet.has_row g.S.RowSet.fits g.S.RowSet.takes_any c.loop-step.steps.items c.pop.new.self.items c.in-Some.step (g.S.RowSet.parts c.loop-step.set) c.in-Some.ensures.items c.loop-step.invariant.can in
     record {
       can = subst (CanStepAll g.S.RowSet.has_row g.S.RowSet.fits g.S.RowSet.takes_any c.pop.new.self.items) (sym {A = Parts} taken) left.1;
@@ -27,4 +27,5 @@ loop-step-preserved g c =
           ∙ sym (all_stepped-last c.pop.new.self.items c.in-Some.step (g.S.RowSet.parts c.loop-step.set))
           ∙ ap (λ (ss : List Step). all_stepped ss (g.S.RowSet.parts c.loop-step.set)) (sym c.in-Some.ensures.items)
           ∙ c.loop-step.invariant.rows;
+      sealed = c.take_back.ensures.sealed ∙ c.loop-step.invariant.sealed;
     }

@@ -4,5 +4,5 @@ use Rattle.tf_forest.proofs.forest.Forest.keep.Goals as goal
 
 pub overflow_add-self : goal.overflow_add-self
 overflow_add-self g c =
-    let bound = noted_length g.S.RowSet.has_row g.S.RowSet.fits g.S.RowSet.takes_any _ c.self.inside.notes.items c.self.inside.kept c.len.result c.self.invariant (search rules) in
+    let bound = noted_length g.F.MutableRows.has_row g.F.MutableRows.fits g.F.MutableRows.takes_any _ c.self.inside.notes.items c.self.inside.kept c.len.result c.self.invariant (search rules) in
     omega (arith, bound)

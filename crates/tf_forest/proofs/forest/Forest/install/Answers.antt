@@ -1,0 +1,38 @@
+use Rattle.std.proofs.Common.{◌≡◌, ◌∙◌, sym, ap, subst, length}
+use Rattle.std.specs.Prelude.{IfErr}
+use Rattle.tf_manifest.specs.Install.{OnStale}
+use Rattle.tf_manifest.specs.Jobs.{StandsIn}
+use Rattle.tf_manifest.specs.View.{View as Tables, content_in}
+use Rattle.tf_forest.specs.Forest.{View, journal_in}
+use Rattle.tf_forest.specs.Parts.{Parts, parts_of}
+use Rattle.tf_forest.proofs.Notes.{same_forest, same_journal}
+use Rattle.tf_forest.proofs.Sealed.{same_in_front}
+use Rattle.tf_forest.proofs.forest.Forest.install.Goals as goal
+
+pub invariant_of-self : goal.invariant_of-self
+invariant_of-self g c =
+    let fresh = g.F.MutableRows.entries c.self.inside.rows.fresh in
+    let old : Parts = parts_of fresh c.self.inside.rows.manifest in
+    let new : Parts = parts_of fresh c.install.new.self in
+    let all : c.self.inside.kept ≡ length (journal_in old) =
+    ap (λ (v : View). v.kept) c.self.view_is ∙ c.requires ∙ ap (λ (v : View). length v.journal) (sym c.self.view_is) in
+    same_forest g.F.MutableRows.has_row g.F.MutableRows.fits g.F.MutableRows.takes_any c.rows_spell_the_journal_they_show.ensures old new c.self.inside.notes.items c.self.inside.kept
+    (same_in_front fresh c.self.inside.rows.manifest c.install.new.self c.install.ensures.content) c.self.invariant.shows.values c.self.invariant all
+
+pub returns-clause-journal : goal.returns-clause-journal
+returns-clause-journal g c =
+    let fresh = g.F.MutableRows.entries c.self.inside.rows.fresh in
+    let old : Parts = parts_of fresh c.self.inside.rows.manifest in
+    let new : Parts = parts_of fresh c.install.new.self in
+    same_journal c.rows_spell_the_journal_they_show.ensures old new
+    (same_in_front fresh c.self.inside.rows.manifest c.install.new.self c.install.ensures.content) c.self.invariant.shows
+    ∙ ap (λ (v : View). v.journal) c.self.view_is
+
+pub returns-clause-content : goal.returns-clause-content
+returns-clause-content g c = λ row key.
+    c.install.ensures.content row key ∙ ap (λ (v : View). content_in v.sealed row key) c.self.view_is
+
+pub returns-clause-stale : goal.returns-clause-stale
+returns-clause-stale g c =
+    subst (λ (tables : Tables). IfErr c.install.result (λ e. OnStale e (StandsIn tables c.args.merged → ⊥)))
+    (ap (λ (v : View). v.sealed) c.self.view_is) c.install.ensures.stale

@@ -1,0 +1,49 @@
+//! Sealed tables of a forest that are merged.
+ghost use Rattle.std.specs.Prelude.{◌≡◌, ◌<◌, ℕ, length, OnOk, OnErr, IfErr, IfSome, IfNone, IsSome};
+ghost use Rattle.tf_manifest.specs.Install.{IfNoMemory, OnFull, OnStale};
+ghost use Rattle.tf_manifest.specs.Jobs.{InstallsIn, IsPickedFrom, StandsIn};
+ghost use Rattle.tf_manifest.specs.Kinds.{kind_of};
+ghost use Rattle.tf_manifest.specs.Run.{count_at};
+ghost use Rattle.tf_manifest.specs.View.{content_in, references_in, tables_by};
+ghost use Rattle.tf_manifest.specs.declared.row.Row.{Row};
+ghost use Rattle.tf_table.specs.declared.key.Key.{Key};
+
+use crate::{AllRows, Forest, rows_spell_the_journal_they_show};
+use std::alloc::Allocator;
+use std::sync::Wait;
+use tf_manifest::{Job, Merged, Naming, Row, Uninstalled};
+
+impl<'r, F: AllRows + Drop, A: Allocator + Copy, N: Naming> Forest<'r, F, A, N> {
+    /// The run of a row to merge next, as `Manifest::pick` has it. It takes no memory.
+    pub fn pick(&self, row: Row) -> Option<Job<'r, A, N>>
+        ensures some { IfSome result (IsPickedFrom self.now.sealed row) }
+        ensures none { IfNone result ((level : ℕ) → count_at level (tables_by self.now.sealed (kind_of row)) < 4) }
+        ensures full { references_in self.now.sealed row ≡ 64 → IsSome result }
+    {
+        self.rows.manifest.pick(row)
+    }
+
+    /// Puts a merged table in the place of its run, as `Manifest::install` does. All entries are kept, and the journal
+    /// stays. It may wait in the push.
+    pub fn install<R: Wait>(
+        &mut self,
+        rt: &R,
+        merged: Merged<'r, A, N>,
+    ) -> Result<(), Uninstalled<Merged<'r, A, N>>>
+        requires { self.old.kept ≡ length self.old.journal }
+        ensures journal { self.new.journal ≡ self.old.journal }
+        ensures clock_kept { self.new.clock ≡ self.old.clock }
+        ensures length_kept { self.new.kept ≡ self.old.kept }
+        ensures installs { OnOk result (InstallsIn self.old.sealed merged.entry self.new.sealed) }
+        ensures content { (row : Row) (key : Key) → content_in self.new.sealed row key ≡ content_in self.old.sealed row key }
+        ensures room { OnOk result (self.old.sealed.pushed.count < self.old.sealed.pushed.limit) }
+        ensures err { OnErr result (self.new ≡ self.old) }
+        ensures stale { IfErr result (λ e. OnStale e (StandsIn self.old.sealed merged.entry → ⊥)) }
+        ensures full { IfErr result (λ e. OnFull e (StandsIn self.old.sealed merged.entry × (self.old.sealed.pushed.count ≡ self.old.sealed.pushed.limit))) }
+        ensures no_memory { IfErr result (λ e. IfNoMemory e (λ m. StandsIn self.old.sealed merged.entry × (self.old.sealed.pushed.count < self.old.sealed.pushed.limit))) }
+        ensures back { IfErr result (λ e. IfNoMemory e (λ m. m ≡ merged.entry)) }
+    {
+        rows_spell_the_journal_they_show();
+        self.rows.manifest.install(rt, merged)
+    }
+}

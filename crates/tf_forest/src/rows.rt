@@ -1,0 +1,66 @@
+//! Mutable tables in front of the sealed ones of a manifest.
+ghost use Rattle.std.specs.Prelude.{◌≡◌, []};
+ghost use Rattle.tf_manifest.specs.declared.row.Row.{Row};
+ghost use Rattle.tf_manifest.specs.Registries.{AreShelves};
+ghost use Rattle.tf_manifest.specs.View.{no_tables};
+ghost use Rattle.tf_forest.specs.Nest.{AreEmpty};
+ghost use Rattle.tf_forest.specs.Parts.{parts_of};
+
+use crate::{Before, MutableRows, RowSet};
+use std::alloc::Allocator;
+use tf_manifest::{Manifest, Naming, Registries, Row, Value};
+use tf_records::Refusal;
+use tf_table::Key;
+
+/// Rows: what a row's mutable table has at a key comes before what its sealed tables have there.
+#[derive(Drop)]
+pub struct Rows<'r, F: MutableRows + Drop, A: Allocator, N: Naming> {
+    pub fresh: F,
+    pub manifest: Manifest<'r, A, N>,
+}
+
+impl<'r, F: MutableRows + Drop, A: Allocator, N: Naming> Rows<'r, F, A, N> {
+    /// Mutable tables without entries, and no sealed ones. It takes no memory.
+    pub fn new(fresh: F, registries: &'r Registries<A>) -> Rows<'r, F, A, N>
+        requires registries { AreShelves N.shelf registries.now }
+        requires empty { (r : Row) → F.entries fresh r ≡ [] }
+        ensures empty { AreEmpty (parts_of (F.entries result.fresh) result.manifest) }
+        ensures sealed { result.manifest ≡ no_tables registries.now.limit }
+    {
+        Rows {
+            fresh,
+            manifest: Manifest::new(registries),
+        }
+    }
+}
+
+impl<'r, F: MutableRows + Drop, A: Allocator, N: Naming> RowSet for Rows<'r, F, A, N> {
+    ghost has_row = { λ r. F.has_row r };
+
+    ghost fits = { λ r v. F.fits r v };
+
+    ghost parts = { λ rows. parts_of (F.entries rows.fresh) rows.manifest };
+
+    ghost sealed = { λ rows. rows.manifest };
+
+    ghost takes_any = { λ r. F.takes_any r };
+
+    fn has_row(row: Row) -> bool {
+        F::has_row(row)
+    }
+
+    fn find(&self, row: Row, key: &Key) -> Option<Value> {
+        match self.fresh.entry(row, key) {
+            Some(entry) => entry,
+            None => self.manifest.find(row, key),
+        }
+    }
+
+    fn put(&mut self, row: Row, key: Key, entry: Option<Value>) -> Result<Before, Refusal> {
+        self.fresh.put(row, key, entry)
+    }
+
+    fn take_back(&mut self, row: Row, key: &Key, before: Before) {
+        self.fresh.take_back(row, key, before);
+    }
+}
