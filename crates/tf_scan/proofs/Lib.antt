@@ -11,3 +11,5 @@ pub mod Walked
 pub mod Taking
 pub mod Across
 pub mod Turns
+pub mod Moves
+pub mod Runs

@@ -11,7 +11,7 @@ use Rattle.tf_scan.specs.declared.operation.Operation.TheVariants.{Union, Inters
 use Rattle.tf_scan.specs.Order.{is_before, AllBehind, IsInOrder, those_from}
 use Rattle.tf_scan.specs.Sets.{intersection_of}
 use Rattle.tf_scan.specs.Part.{Part}
-use Rattle.tf_scan.specs.Node.{join_of, left_behind, with_head, IsPartOf, KeepsPart, IsKind, IsNode}
+use Rattle.tf_scan.specs.Node.{join_of, left_behind, with_head, height_of, IsPartOf, KeepsPart, IsKind, IsNode}
 use Rattle.tf_scan.proofs.Joins.{in_order-union, in_order-intersection}
 use Rattle.tf_scan.proofs.Firsts.{intersection-seek-left, intersection-seek-right, seek-shortens}
 
@@ -87,3 +87,7 @@ module _ (d : Direction) (t : ℕ) (l r p q peeked_p peeked_q new : Part) (left 
       let seeks = seek-left d t q new.left (still d r q right met.right_kept) (subst (λ (x : Part). new.left ≡ those_from x.direction t x.left) same_q others) in
       let shorter = seek-shortens d a t q.left (sym first) before in
       rw (seeks, same_p) (omega arith)
+
+-- of a leaf that isn't read yet its own timestamps are left
+pub leaf-left : {P A : Type 0} (left : P → List ℕ) (d : Direction) (head : Head) (kind : Kind P A) (p : P) (part : Part) → head ≡ Unread → kind ≡ Leaf p → record { direction = d; left = with_head head (left_behind left d kind); height = height_of kind } ≡ part → left p ≡ part.left
+leaf-left left d head kind p part h k e = sym (ap (left_behind left d) k) ∙ sym (ap (λ x. with_head x (left_behind left d kind)) h) ∙ ap (λ (q : Part). q.left) e

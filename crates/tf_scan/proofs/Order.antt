@@ -1,5 +1,5 @@
 -- Lists of timestamps in order.
-use Rattle.std.proofs.Common.{◌≡◌, ℕ, cond, arith, List, [], ◌∷◌, ◌++◌, Bool, true, false, drop}
+use Rattle.std.proofs.Common.{◌≡◌, ℕ, zero, suc, cond, arith, List, [], ◌∷◌, ◌++◌, Bool, true, false, drop}
 use Rattle.std.specs.Prelude.{filter}
 use Rattle.std.proofs.lemmas.Bool.{lt-ltb, ltb-true, le-ltb, ltb-false}
 use Rattle.tf_scan.specs.declared.direction.Direction.{Direction}
@@ -67,6 +67,11 @@ in_order-filter d p (t ∷ ts) h = kept (p t) (in_order-filter d p ts h.1)
 pub in_order-drop : (d : Direction) (ts : List ℕ) → IsInOrder d ts → IsInOrder d (drop 1 ts)
 in_order-drop d [] h = tt
 in_order-drop d (t ∷ ts) h = h.1
+
+pub in_order-rest : (d : Direction) (n : ℕ) (ts : List ℕ) → IsInOrder d ts → IsInOrder d (drop n ts)
+in_order-rest d zero ts h = h
+in_order-rest d (suc n) [] h = tt
+in_order-rest d (suc n) (t ∷ ts) h = in_order-rest d n ts h.1
 
 -- two lists in order, all of the one before all of the other, are in order one after the other
 pub in_order-append : (d : Direction) (ts us : List ℕ) → IsInOrder d ts → IsInOrder d us → AllBefore d ts us → IsInOrder d (ts ++ us)

@@ -7,3 +7,4 @@ pub mod Falls
 pub mod Prefix
 pub mod Place
 pub mod Turn
+pub mod Run

@@ -1,5 +1,5 @@
 //! What a scan reads from.
-ghost use Rattle.std.specs.Prelude.{◌≡◌, ℕ, List, drop, slice_get};
+ghost use Rattle.std.specs.Prelude.{◌≡◌, ℕ, List, ◌++◌, length, min, take, drop, slice_get};
 ghost use Rattle.tf_scan.specs.declared.direction.Direction as declared;
 ghost use Rattle.tf_scan.specs.Order.{IsInOrder, those_from};
 
@@ -29,4 +29,21 @@ pub trait Leaf {
     fn seek(&mut self, timestamp: u64)
         ensures others { left self.new ≡ those_from (direction self.old) timestamp (left self.old) }
         ensures direction_kept { direction self.new ≡ direction self.old };
+
+    /// Moves the first of them to the front of `out`, in their order, until it is full or none is left, and tells how
+    /// many those are. Takes no memory.
+    fn take_into(&mut self, out: &mut [u64]) -> usize
+        ensures count { result ≡ min (length out.old) (length (left self.old)) }
+        ensures moved { out.new ≡ take result (left self.old) ++ drop result out.old }
+        ensures others { left self.new ≡ drop result (left self.old) }
+        ensures direction_kept { direction self.new ≡ direction self.old }
+    {
+        for taken in 0..out.len() {
+            match self.next() {
+                Some(timestamp) => out[taken] = timestamp,
+                None => return taken,
+            }
+        }
+        out.len()
+    }
 }

@@ -10,6 +10,7 @@ mod place;
 mod places;
 mod posting_list;
 mod prefix;
+mod run;
 mod scan;
 #[cfg(test)]
 mod tests;

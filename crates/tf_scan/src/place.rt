@@ -1,5 +1,5 @@
 //! What is left of one table in a prefix.
-ghost use Rattle.std.specs.Prelude.{◌≡◌, not, ◌&&◌, ℕ, [], MatchOption};
+ghost use Rattle.std.specs.Prelude.{◌≡◌, ◌≤◌, not, ◌&&◌, ℕ, [], length, MatchOption};
 ghost use Rattle.std.specs.Option.{option_copied, option_map};
 ghost use Rattle.tf_table.specs.Content.{entry_at};
 ghost use Rattle.tf_table.specs.Merge.{seen};
@@ -8,9 +8,13 @@ ghost use Rattle.tf_scan.specs.declared.direction.Direction as declared;
 ghost use Rattle.tf_scan.specs.declared.place.Place.TheVariants.{End};
 ghost use Rattle.tf_scan.specs.Order.{is_before};
 ghost use Rattle.tf_scan.specs.Place.{rows_left, nearest_in, is_within, IsAt, IsFrom, IsPlace, IsTaken, rows_behind, Opens, Advances, Takes, Seeks};
+ghost use Rattle.tf_scan.specs.Run.{WritesRun};
 
 use crate::Direction;
+use crate::run::take_rows;
+use crate::turn::Turn;
 use std::alloc::Allocator;
+use std::mem;
 use tf_table::{Cursor, Key, Row, Sealed, Span};
 
 /// The rows of one table that are still to come, of one value and in one direction.
@@ -27,8 +31,8 @@ pub(crate) enum Place<'r, V, A: Allocator> {
 /// The rows of a table that was searched: the next one, and the others.
 #[derive(Drop)]
 pub(crate) struct Front<'r, V, A: Allocator> {
-    row: Row<'r, V>,
-    others: Cursor<'r, V, A>,
+    pub(crate) row: Row<'r, V>,
+    pub(crate) others: Cursor<'r, V, A>,
 }
 
 impl<'r, V, A: Allocator> Default for Place<'r, V, A> {
@@ -121,6 +125,31 @@ impl<'r, V, A: Allocator> Place<'r, V, A> {
         }
     }
 
+    /// Takes out rows as long as the turn lasts and there is room in `out`, writes the timestamps of those with a value
+    /// there from one place on, and tells the place behind the last. It takes none where the table wasn't searched.
+    pub(crate) fn take_run(
+        &mut self,
+        direction: Direction,
+        turn: Turn,
+        out: &mut [u64],
+        from: usize,
+    ) -> usize
+        requires { from ≤ length out.old }
+        ensures { WritesRun direction turn.until from result self.old self.new out.old out.new }
+    {
+        match mem::replace(self, Place::End) {
+            Place::Open(front) => {
+                let (rest, to) = take_rows(direction, turn, front, out, from);
+                *self = rest;
+                to
+            }
+            other => {
+                *self = other;
+                from
+            }
+        }
+    }
+
     /// Searches the table, if that wasn't done.
     fn open(&mut self, direction: Direction, value: u128)
         requires { IsPlace direction value self.old }
@@ -158,7 +187,7 @@ impl<'r, V, A: Allocator> Place<'r, V, A> {
 
 /// Takes out the row that comes first.
 #[inline]
-fn first<'r, V, A: Allocator>(
+pub(crate) fn first<'r, V, A: Allocator>(
     direction: Direction,
     rows: &mut Cursor<'r, V, A>,
 ) -> Option<Row<'r, V>>

@@ -1,5 +1,5 @@
 //! What is left of the tables of a row in a prefix, newest first.
-ghost use Rattle.std.specs.Prelude.{◌≡◌, drop, slice_get, Some};
+ghost use Rattle.std.specs.Prelude.{◌≡◌, ℕ, ◌≤◌, ◌++◌, length, min, take, drop, slice_get, Some};
 ghost use Rattle.std.specs.List.{AllByRecursion, AllZip};
 ghost use Rattle.std.specs.Option.{option_copied, option_map};
 ghost use Rattle.tf_table.specs.Content.{entry_of};
@@ -8,6 +8,7 @@ ghost use Rattle.tf_scan.specs.Order.{those_from};
 ghost use Rattle.tf_scan.specs.Prefix.{prefix_of};
 ghost use Rattle.tf_scan.specs.Place.{lists_left, nearest_in, nearest_of, IsFrom, IsPlace, Takes, Seeks};
 ghost use Rattle.tf_scan.specs.Turn.{IsTurn};
+ghost use Rattle.tf_scan.specs.Run.{WritesPrefix};
 
 use crate::Direction;
 use crate::place::Place;
@@ -37,6 +38,55 @@ pub(crate) fn next<V, A: Allocator>(
         }
     }
     None
+}
+
+/// Moves the first timestamps at which the tables' content has the value to the front of `out`, until it is full or none
+/// is left, and tells how many those are.
+///
+/// What one place alone has next it moves in one loop over that place's rows.
+pub(crate) fn take_into<V, A: Allocator>(
+    direction: Direction,
+    value: u128,
+    places: &mut [Place<'_, V, A>],
+    turn: &mut Turn,
+    out: &mut [u64],
+) -> usize
+    requires right { AllByRecursion (IsPlace direction value) places.old }
+    requires turn { IsTurn direction turn.old places.old }
+    ensures right { AllByRecursion (IsPlace direction value) places.new }
+    ensures turn { IsTurn direction turn.new places.new }
+    ensures count { result ≡ min (length out.old) (length (prefix_of direction value (lists_left value places.old))) }
+    ensures moved { out.new ≡ take result (prefix_of direction value (lists_left value places.old)) ++ drop result out.old }
+    ensures others { prefix_of direction value (lists_left value places.new) ≡ drop result (prefix_of direction value (lists_left value places.old)) }
+{
+    let mut taken = 0;
+    while taken < out.len() {
+        let Some(timestamp) = next(direction, value, places, turn) else {
+            return taken;
+        };
+        out[taken] = timestamp;
+        taken = take_turn(direction, places, *turn, out, taken + 1);
+    }
+    taken
+}
+
+/// Moves what the place has whose turn it is to `out`, from one place there on, and tells the place behind the last.
+fn take_turn<V, A: Allocator>(
+    direction: Direction,
+    places: &mut [Place<'_, V, A>],
+    turn: Turn,
+    out: &mut [u64],
+    from: usize,
+) -> usize
+    requires room { from ≤ length out.old }
+    requires turn { IsTurn direction turn places.old }
+    ensures moved { (value : ℕ) → AllByRecursion (IsPlace direction value) places.old → WritesPrefix direction value from result places.old places.new out.old out.new }
+    ensures turn { IsTurn direction turn places.new }
+{
+    if turn.place >= places.len() {
+        return from;
+    }
+    places[turn.place].take_run(direction, turn, out, from)
 }
 
 /// Takes out the timestamps before this one.

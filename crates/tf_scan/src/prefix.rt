@@ -101,4 +101,16 @@ impl<'r, V, A: Allocator> Leaf for Prefix<'r, V, A> {
             timestamp,
         );
     }
+
+    /// As long as the timestamps of one table come before those of all others, it goes over that one's rows alone. Else
+    /// it goes over the places twice for each timestamp that a table has.
+    fn take_into(&mut self, out: &mut [u64]) -> usize {
+        places::take_into(
+            self.direction,
+            self.value,
+            self.places.as_mut_slice(),
+            &mut self.turn,
+            out,
+        )
+    }
 }

@@ -1,5 +1,5 @@
 //! Scans.
-ghost use Rattle.std.specs.Prelude.{◌≡◌, ◌||◌, ◌&&◌, ℕ, IfErr, IfOk, drop, slice_get};
+ghost use Rattle.std.specs.Prelude.{◌≡◌, ◌||◌, ◌&&◌, ℕ, ◌++◌, IfErr, IfOk, length, min, take, drop, slice_get};
 ghost use Rattle.tf_records.specs.declared.refusal.Refusal.TheVariants.{NoMemory};
 ghost use Rattle.tf_scan.specs.Order.{IsInOrder, those_from};
 ghost use Rattle.tf_scan.specs.Sets.{is_among, union_of, intersection_of};
@@ -117,6 +117,20 @@ impl<P: Leaf, A: Allocator> Scan<P, A> {
         ensures direction { self.new.direction ≡ self.old.direction }
     {
         self.root.next()
+    }
+
+    /// Moves the first timestamps to the front of `out`, in their order, until it is full or none is left, and tells how
+    /// many those are. It takes no memory.
+    ///
+    /// Of a leaf it moves as many at once as the leaf can, and those of a union or an intersection one by one. What it
+    /// gives is what as many calls of `next` would give.
+    pub fn take_into(&mut self, out: &mut [u64]) -> usize
+        ensures count { result ≡ min (length out.old) (length self.old.left) }
+        ensures moved { out.new ≡ take result self.old.left ++ drop result out.old }
+        ensures others { self.new.left ≡ drop result self.old.left }
+        ensures direction { self.new.direction ≡ self.old.direction }
+    {
+        self.root.take_into(out)
     }
 
     /// Takes out the timestamps that come before this one: where they rise, those below it, and where they fall, those

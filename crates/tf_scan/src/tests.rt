@@ -6,6 +6,7 @@ mod joins;
 mod prefixes;
 mod reading;
 mod refusals;
+mod taking;
 
 use crate::{Direction, PostingList, Scan};
 use std::alloc::{AllocError, Allocator};

@@ -20,7 +20,7 @@ use tf_table::{Key, Log, MutableTable, Sealed};
 const TABLES: u64 = 16;
 
 /// What the prefixes of the row have.
-const LISTS: [Multiples; 5] = [
+pub(super) const LISTS: [Multiples; 5] = [
     Multiples { of: 2, count: 0 },
     Multiples { of: 2, count: 1 },
     Multiples {
@@ -35,7 +35,7 @@ const LISTS: [Multiples; 5] = [
 ];
 
 /// The value under which a list stands.
-fn value_of(list: Multiples) -> u128 {
+pub(super) fn value_of(list: Multiples) -> u128 {
     u128::from(list.of.wrapping_mul(10_000).wrapping_add(list.count))
 }
 
@@ -97,7 +97,7 @@ fn table(alloc: Global, t: u64) -> Result<Sealed<(), Global>, Fail> {
 }
 
 /// The row.
-fn row<'r, N: Naming, R: Wait>(
+pub(super) fn row<'r, N: Naming, R: Wait>(
     rt: &R,
     alloc: Global,
     registry: &'r Registry<(), Global>,
@@ -173,7 +173,7 @@ fn joins_of_prefixes_are_the_plain_filter(rt: HostRuntime) -> Result<(), Fail> {
 }
 
 /// Tables of a hundred timestamps each, that follow each other.
-fn tables_in_turn<'r, N: Naming, R: Wait>(
+pub(super) fn tables_in_turn<'r, N: Naming, R: Wait>(
     rt: &R,
     alloc: Global,
     registry: &'r Registry<(), Global>,

@@ -1,0 +1,41 @@
+use Rattle.std.proofs.Common.{◌≡◌, ◌++◌, sym, ◌∙◌, ap, subst, length, min, take, drop}
+use Rattle.tf_scan.specs.Part.{Part}
+use Rattle.tf_scan.specs.Order.{IsInOrder}
+use Rattle.tf_scan.specs.Node.{with_head, height_of, IsKind, IsHead}
+use Rattle.tf_scan.proofs.Order.{in_order-rest}
+use Rattle.tf_scan.proofs.Nodes.{in_order-node, keeps, leaf-left}
+use Rattle.tf_scan.proofs.node.Node.take_into.Goals as goal
+
+pub invariant_of-self : goal.invariant_of-self
+invariant_of-self g c =
+    let below = subst (IsKind g.P.Leaf.direction g.P.Leaf.left c.self.inside.direction) c.in-Leaf.is c.self.invariant.below in
+    record {
+      below = (c.take_into.ensures.direction_kept ∙ below.0, subst (IsInOrder c.self.inside.direction) (sym c.take_into.ensures.others) (in_order-rest _ _ _ below.1));
+      first = subst (λ h. IsHead c.self.inside.direction h (g.P.Leaf.left c.take_into.new.self)) (sym c.in-Unread.is) tt;
+    }
+
+pub returns-in-Leaf-clause-count : goal.returns-in-Leaf-clause-count
+returns-in-Leaf-clause-count g c =
+    c.take_into.ensures.count ∙ ap (λ ts. min (length c.args.out.now) (length ts)) (leaf-left g.P.Leaf.left c.self.inside.direction c.self.inside.head c.self.inside.kind c.in-Leaf.leaf c.args.self.now c.in-Unread.is c.in-Leaf.is c.self.view_is)
+
+pub returns-in-Leaf-clause-moved : goal.returns-in-Leaf-clause-moved
+returns-in-Leaf-clause-moved g c =
+    c.take_into.ensures.moved
+    ∙ ap (λ ts. take c.take_into.result ts ++ drop c.take_into.result c.args.out.now) (leaf-left g.P.Leaf.left c.self.inside.direction c.self.inside.head c.self.inside.kind c.in-Leaf.leaf c.args.self.now c.in-Unread.is c.in-Leaf.is c.self.view_is)
+
+pub returns-in-Leaf-clause-others : goal.returns-in-Leaf-clause-others
+returns-in-Leaf-clause-others g c =
+    rw c.in-Unread.is (c.take_into.ensures.others ∙ ap (drop c.take_into.result) (leaf-left g.P.Leaf.left c.self.inside.direction c.self.inside.head c.self.inside.kind c.in-Leaf.leaf c.args.self.now c.in-Unread.is c.in-Leaf.is c.self.view_is))
+
+pub returns-in-Leaf-clause-kept : goal.returns-in-Leaf-clause-kept
+returns-in-Leaf-clause-kept g c =
+    let below = subst (IsKind g.P.Leaf.direction g.P.Leaf.left c.self.inside.direction) c.in-Leaf.is c.self.invariant.below in
+    let shown = ap (λ h. with_head h (g.P.Leaf.left c.take_into.new.self)) c.in-Unread.is in
+    keeps c.args.self.now _ _ _ (ap (λ (p : Part). p.direction) c.self.view_is) (sym (ap height_of c.in-Leaf.is) ∙ ap (λ (p : Part). p.height) c.self.view_is)
+    (subst (IsInOrder c.self.inside.direction) (sym (shown ∙ c.take_into.ensures.others)) (in_order-rest _ _ _ below.1))
+
+pub take_each-requires : goal.take_each-requires
+take_each-requires g c = in_order-node g.P.Leaf.direction g.P.Leaf.left c.self.inside.direction c.self.inside.head c.self.inside.kind c.self.invariant
+
+pub take_each-requires-in_default : goal.take_each-requires-in_default
+take_each-requires-in_default g c = subst (λ (p : Part). IsInOrder p.direction p.left) c.self.view_is (in_order-node g.P.Leaf.direction g.P.Leaf.left c.self.inside.direction c.self.inside.head c.self.inside.kind c.self.invariant)
