@@ -42,7 +42,7 @@ untouched changes k e o has =
     none_has (λ (r : Edit). is_eq (key_cmp r.0 k)) changes (k, o)
     (is_none (λ (r : Edit). r.1) (find (λ (r : Edit). is_eq (key_cmp r.0 k)) changes) e) has (ap is_eq (tied_itself total k))
 
-same_options : {X : Type 0} (a b : Option X) → ((x : X) → b ≡ Some x → a ≡ Some x) → ((x : X) → a ≡ Some x → b ≡ Some x) → a ≡ b
+pub same_options : {X : Type 0} (a b : Option X) → ((x : X) → b ≡ Some x → a ≡ Some x) → ((x : X) → a ≡ Some x → b ≡ Some x) → a ≡ b
 same_options None None to back = refl
 same_options None (Some x) to back = to x refl
 same_options (Some x) b to back = sym (back x refl)

@@ -90,7 +90,7 @@ module _ (maps : RowsAreMaps) (content : Content) (journal : List Entry) (sound 
   transfer_object : (t : Transfer) → Has (transfers_of journal) t → content row.TransferObjects (key_of 0 t.timestamp) ≡ Some (value.Transfer t)
   transfer_object t h = read_there row.TransferObjects (key_of 0 t.timestamp) (value.Transfer t) (has_map (λ (u : Transfer). (key_of 0 u.timestamp, value.Transfer u)) (transfers_of journal) t h)
 
-  transfer_is_at : (t : Transfer) → Has (transfers_of journal) t → transfer_at content t.timestamp ≡ Some t
+  pub transfer_is_at : (t : Transfer) → Has (transfers_of journal) t → transfer_at content t.timestamp ≡ Some t
   transfer_is_at t h = ap (option_and_then as_transfer) (transfer_object t h)
 
   -- the use of an id, by whether a transfer has it and whether it failed

@@ -18,6 +18,9 @@ pub mod Listed
 pub mod EditsOfRows
 pub mod CanChange
 pub mod Notes
+pub mod Walks
+pub mod DueRows
+pub mod BelowFloors
 pub mod Added
 pub mod Sealed
 pub mod NoEntries

@@ -7,6 +7,7 @@ use Rattle.tf_journal.specs.Lawful.{IsSound}
 use Rattle.tf_journal.specs.Ledger.{CanGrow}
 use Rattle.tf_journal.specs.Journal.{IsJournal, IsRisingFrom, IsUpTo, last_timestamp, timestamp_of}
 use Rattle.tf_forest.specs.declared.change.Step.{Step}
+use Rattle.tf_forest.specs.declared.floors.Floors.{Floors}
 use Rattle.tf_table.specs.declared.key.Key.{Key}
 use Rattle.tf_table.specs.Content.{entry_at}
 use Rattle.tf_manifest.specs.declared.row.Row.{Row}
@@ -15,6 +16,7 @@ use Rattle.tf_manifest.specs.declared.value.Value.{Value}
 use Rattle.tf_manifest.specs.Shows.{Shows, value_of}
 use Rattle.tf_journal.proofs.Sound.{sound_nothing, sound_push}
 use Rattle.tf_forest.specs.Changes.{CanStepAll, all_stepped}
+use Rattle.tf_forest.specs.Floors.{HaveFloors}
 use Rattle.tf_forest.specs.Forest.{AreRight, IsCut, IsForest, ShowTheirJournal, TakesBack, all_undone, journal_in}
 use Rattle.tf_forest.specs.Nest.{AreEmpty, LogsHaveValues}
 use Rattle.tf_forest.specs.Next.{content_in}
@@ -54,8 +56,8 @@ pub journal_length : (journal : List Entry) → IsJournal journal → length jou
 journal_length journal is = let long = rising_length 0 last_timestamp journal (omega arith) is.rising is.in_range in omega arith
 
 -- what is kept and the notes together are the journal's length
-pub noted_length : (has : Row → Bool) (fits : Row → Value → Bool) (takes_any : Row → Type 0) (rows : Parts) (notes : List (List Step)) (kept n : ℕ) → IsForest has fits takes_any rows notes kept → n ≡ length notes → kept + n ≤ last_timestamp
-noted_length has fits takes_any rows notes kept n is own =
+pub noted_length : (has : Row → Bool) (fits : Row → Value → Bool) (takes_any : Row → Type 0) (rows : Parts) (notes : List (List Step)) (kept n : ℕ) (lows : Floors) → IsForest has fits takes_any rows notes kept lows → n ≡ length notes → kept + n ≤ last_timestamp
+noted_length has fits takes_any rows notes kept n lows is own =
     let long = journal_length (journal_in rows) is.shows.sound.is_journal in
     let count = is.count in
     omega arith
@@ -72,7 +74,7 @@ module _ (has : Row → Bool) (fits : Row → Value → Bool) (takes_any : Row �
     pub can : CanStepAll has fits takes_any note new
     pub back : all_stepped note new ≡ old
 
-  module _ (spell : Spell) (old new : Parts) (notes : List (List Step)) (note : List Step) (kept : ℕ) (e : Entry) (was : IsForest has fits takes_any old notes kept) (grows : CanGrow (journal_in old) e) (is : IsGrown old new e note) where
+  module _ (spell : Spell) (old new : Parts) (notes : List (List Step)) (note : List Step) (kept : ℕ) (lows : Floors) (e : Entry) (was : IsForest has fits takes_any old notes kept lows) (grows : CanGrow (journal_in old) e) (is : IsGrown old new e note) where
     now_sound : IsSound (journal_in old ++ e ∷ [])
     now_sound = sound_push (journal_in old) e was.shows.sound grows
 
@@ -87,8 +89,8 @@ module _ (has : Row → Bool) (fits : Row → Value → Bool) (takes_any : Row �
       added = grown_journal ∙ ap (λ (rows : Parts). journal_in rows ++ e ∷ []) (sym is.back);
     }
 
-    pub grown_forest : IsForest has fits takes_any new (notes ++ note ∷ []) kept
-    grown_forest = record {
+    pub grown_forest : (after : Floors) → HaveFloors after (journal_in old ++ e ∷ []) kept → IsForest has fits takes_any new (notes ++ note ∷ []) kept after
+    grown_forest after have = record {
       shows = record {
         sound = subst IsSound (sym grown_journal) now_sound;
         shows = subst (Shows (content_in new)) (sym grown_journal) is.shows;
@@ -100,6 +102,7 @@ module _ (has : Row → Bool) (fits : Row → Value → Bool) (takes_any : Row �
           let journal = ap (λ (j : List Entry). length j) grown_journal ∙ length-append (journal_in old) (e ∷ []) in
           let more = length-append notes (note ∷ []) in
           omega arith;
+      floors = subst (λ (j : List Entry). HaveFloors after j kept) (sym grown_journal) have;
     }
 
 -- a journal with nothing cut, and cut once more
@@ -189,8 +192,8 @@ no_tombstone rows empty r log key =
 pub empty_journal : Spell → (rows : Parts) → AreEmpty rows → journal_in rows ≡ []
 empty_journal spell rows empty = spell rows [] sound_nothing (nothing_shown rows empty)
 
-pub empty_forest : (has : Row → Bool) (fits : Row → Value → Bool) (takes_any : Row → Type 0) → Spell → (rows : Parts) → AreEmpty rows → IsForest has fits takes_any rows [] 0
-empty_forest has fits takes_any spell rows empty = record {
+pub empty_forest : (has : Row → Bool) (fits : Row → Value → Bool) (takes_any : Row → Type 0) → Spell → (rows : Parts) → AreEmpty rows → (lows : Floors) → HaveFloors lows [] 0 → IsForest has fits takes_any rows [] 0 lows
+empty_forest has fits takes_any spell rows empty lows have = record {
   shows = record {
     sound = subst IsSound (sym (empty_journal spell rows empty)) sound_nothing;
     shows = subst (Shows (content_in rows)) (sym (empty_journal spell rows empty)) (nothing_shown rows empty);
@@ -198,6 +201,7 @@ empty_forest has fits takes_any spell rows empty = record {
   };
   right = tt;
   count = ap (λ (j : List Entry). length j) (empty_journal spell rows empty);
+  floors = subst (λ (j : List Entry). HaveFloors lows j 0) (sym (empty_journal spell rows empty)) have;
 }
 
 -- rows with the same value at each key show the same journal
@@ -212,9 +216,9 @@ no_notes [] none = refl
 no_notes (note ∷ notes) none = absurd (omega arith)
 
 -- a forest that keeps all its entries, over such rows
-pub same_forest : (has : Row → Bool) (fits : Row → Value → Bool) (takes_any : Row → Type 0) → Spell → (old new : Parts) (notes : List (List Step)) (kept : ℕ) → ((r : Row) (key : Key) → value_of_part (new r) key ≡ value_of_part (old r) key) → LogsHaveValues new
-    → IsForest has fits takes_any old notes kept → kept ≡ length (journal_in old) → IsForest has fits takes_any new notes kept
-same_forest has fits takes_any spell old new notes kept same values was all =
+pub same_forest : (has : Row → Bool) (fits : Row → Value → Bool) (takes_any : Row → Type 0) → Spell → (old new : Parts) (notes : List (List Step)) (kept : ℕ) (lows : Floors) → ((r : Row) (key : Key) → value_of_part (new r) key ≡ value_of_part (old r) key) → LogsHaveValues new
+    → IsForest has fits takes_any old notes kept lows → kept ≡ length (journal_in old) → IsForest has fits takes_any new notes kept lows
+same_forest has fits takes_any spell old new notes kept lows same values was all =
     let journal = same_journal spell old new same was.shows in
     let count = was.count in
     record {
@@ -225,4 +229,5 @@ same_forest has fits takes_any spell old new notes kept same values was all =
       };
       right = subst (λ (ns : List (List Step)). AreRight has fits takes_any ns new) (sym (no_notes notes (omega arith))) tt;
       count = ap (λ (j : List Entry). length j) journal ∙ was.count;
+      floors = subst (λ (j : List Entry). HaveFloors lows j kept) (sym journal) was.floors;
     }

@@ -62,7 +62,7 @@ module _ {V : Type 0} (seen : V → Value) where
   first-seen (Some x) b = refl
   first-seen None b = refl
 
-  entry_of-seen : (key : Key) (lists : List (List (Key × Option V))) → entry_of key (map (seen_rows seen) lists) ≡ option_map (option_map seen) (entry_of key lists)
+  pub entry_of-seen : (key : Key) (lists : List (List (Key × Option V))) → entry_of key (map (seen_rows seen) lists) ≡ option_map (option_map seen) (entry_of key lists)
   entry_of-seen key [] = refl
   entry_of-seen key (rows ∷ lists) =
       ap (λ (x : Option (Option Value)). first_some x (entry_of key (map (seen_rows seen) lists))) (entry_at-seen key rows)

@@ -26,7 +26,7 @@ use Rattle.tf_forest.specs.Edits.{Edit, expiry_edit, expiry_key, gone, put, stat
 use Rattle.tf_forest.proofs.Changes.{IsChange, IsOf, IsUntouched, remade}
 use Rattle.tf_forest.proofs.Settled.{Settles, SettlesNothing, open_stays, status_stays, status_told, transfer_added, transfer_after, transfer_before}
 
-passes : {X : Type 0} (p : X → Bool) (xs : List X) (x : X) → Has (filter p xs) x → p x ≡ true
+pub passes : {X : Type 0} (p : X → Bool) (xs : List X) (x : X) → Has (filter p xs) x → p x ≡ true
 passes p [] x h = absurd h
 passes p (y ∷ xs) x h = by_test (p y) refl h (passes p xs x) where
   by_test : (b : Bool) → p y ≡ b → Has (cond b (y ∷ filter p xs) (filter p xs)) x → (Has (filter p xs) x → p x ≡ true) → p x ≡ true
@@ -34,7 +34,7 @@ passes p (y ∷ xs) x h = by_test (p y) refl h (passes p xs x) where
   by_test true e (inr there) rest = rest there
   by_test false e there rest = rest there
 
-keeps : {X : Type 0} (p : X → Bool) (xs : List X) (x : X) → Has xs x → p x ≡ true → Has (filter p xs) x
+pub keeps : {X : Type 0} (p : X → Bool) (xs : List X) (x : X) → Has xs x → p x ≡ true → Has (filter p xs) x
 keeps p [] x h e = absurd h
 keeps p (y ∷ xs) x h e = by_test (p y) refl h (keeps p xs x) where
   by_test : (b : Bool) → p y ≡ b → Has (y ∷ xs) x → (Has xs x → p x ≡ true → Has (filter p xs) x) → Has (cond b (y ∷ filter p xs) (filter p xs)) x

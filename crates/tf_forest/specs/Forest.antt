@@ -9,7 +9,9 @@ use Rattle.tf_manifest.specs.Rows.{Pair}
 use Rattle.tf_manifest.specs.Shows.{Shows, journal_of}
 use Rattle.tf_manifest.specs.View as manifest
 use Rattle.tf_forest.specs.declared.change.Step.{Step}
+use Rattle.tf_forest.specs.declared.floors.Floors.{Floors}
 use Rattle.tf_forest.specs.Changes.{CanStepAll, all_stepped}
+use Rattle.tf_forest.specs.Floors.{HaveFloors}
 use Rattle.tf_forest.specs.Nest.{LogsHaveValues}
 use Rattle.tf_forest.specs.Next.{content_in}
 use Rattle.tf_forest.specs.Parts.{Parts}
@@ -47,11 +49,13 @@ module _ (has : Row → Bool) (fits : Row → Value → Bool) (takes_any : Row �
   AreRight [] rows = ⊤
   AreRight (note ∷ notes) rows = AreRight notes rows × TakesBack note (all_undone notes rows)
 
-  -- what always holds of a forest: its rows show their journal, and a note takes back each entry that isn't kept
-  pub record IsForest (rows : Parts) (notes : List (List Step)) (kept : ℕ) : Type 0 where
+  -- what always holds of a forest: its rows show their journal, a note takes back each entry that isn't kept, and no
+  -- transfer can expire below its floors
+  pub record IsForest (rows : Parts) (notes : List (List Step)) (kept : ℕ) (lows : Floors) : Type 0 where
     pub shows : ShowTheirJournal rows
     pub right : AreRight notes rows
     pub count : length (journal_in rows) ≡ kept + length notes
+    pub floors : HaveFloors lows (journal_in rows) kept
 
 -- a journal without so many of its last entries
 pub record IsCut (old new : List Entry) (count : ℕ) : Type 0 where

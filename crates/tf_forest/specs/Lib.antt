@@ -7,5 +7,7 @@ pub mod Changes
 pub mod Next
 pub mod Range
 pub mod Nest
+pub mod Floors
 pub mod Forest
+pub mod Due
 pub mod Every

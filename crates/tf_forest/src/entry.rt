@@ -3,6 +3,7 @@ ghost use Rattle.std.specs.Prelude.{◌≡◌, IsSome, IfSome, IfOk, IfErr, OnOk
 ghost use Rattle.std.specs.Option.{option_copied, option_map};
 ghost use Rattle.tf_btree.specs.Rows.{with_row};
 ghost use Rattle.tf_table.specs.Content.{entry_at};
+ghost use Rattle.tf_table.specs.First.{IsFirstAbove};
 ghost use Rattle.tf_table.specs.Key.{key_cmp};
 ghost use Rattle.tf_table.specs.Mutable.{given_back};
 ghost use Rattle.tf_forest.specs.Parts.{seen_rows};
@@ -27,6 +28,16 @@ pub(crate) fn entry_in<V: Held, M: MutableTable<V, A>, A: Allocator + Clone>(
         Some(entry) => Some(seen_entry(entry)),
         None => None,
     }
+}
+
+/// The first key above a given one that has an entry, a value or a tombstone, if one has.
+pub(crate) fn first_above<V: Held, M: MutableTable<V, A>, A: Allocator + Clone>(
+    table: &M,
+    key: &Key,
+) -> Option<Key>
+    ensures { IsFirstAbove key.now (λ found. entry_at found (seen_rows V.seen (M.rows table.now))) result }
+{
+    table.first_above(key)
 }
 
 /// Gives a key an entry, and tells the one that it had.

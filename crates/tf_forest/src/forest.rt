@@ -1,26 +1,29 @@
 //! The ledger whose journal its rows spell.
 ghost use Rattle.std.specs.Prelude.{◌≡◌, ◌≤◌, [], length, take, OnErr};
+ghost use Rattle.tf_forest.specs.Floors.{IsFloor};
 ghost use Rattle.tf_forest.specs.Forest.{ShowTheirJournal, journal_in};
 ghost use Rattle.tf_forest.specs.Parts.{parts_of};
 ghost use Rattle.tf_journal.specs.declared.entry.Entry.{Entry};
-ghost use Rattle.tf_journal.specs.Journal.{IsUpTo};
+ghost use Rattle.tf_journal.specs.Journal.{IsUpTo, is_failed};
 ghost use Rattle.tf_journal.specs.Ledger.{CanGrow, IsAddition};
 ghost use Rattle.tf_journal.specs.Lookup.{id_use_of, shown_with_id, transfer_with_id};
 ghost use Rattle.tf_journal.specs.Status.{status_at};
 ghost use Rattle.tf_manifest.specs.Registries.{AreShelves};
 ghost use Rattle.tf_manifest.specs.View.{no_tables};
 
+use crate::floors::Floors;
 use crate::note::{Note, make_room, note_down, undo_to};
 use crate::{
-    AllRows, EmptyRows, Rows, account, add_entry, entries_leave_sums_in_range, id_use, look_up,
-    next_entry_can_be_added, rows_answer_look_ups, rows_spell_the_journal_they_show, status,
-    transfer,
+    AllRows, EmptyRows, RowSet, Rows, account, add_entry, entries_leave_sums_in_range, id_use,
+    look_up, next_entry_can_be_added, rows_answer_look_ups, rows_spell_the_journal_they_show,
+    status, transfer,
 };
 use std::alloc::Allocator;
 use std::marker::Model;
-use tf_journal::{Entry, IdUse, Mark, Status};
-use tf_manifest::{Naming, Registries};
+use tf_journal::{Entry, IdUse, Mark, Status, ids_are_unique};
+use tf_manifest::{Naming, Registries, Row};
 use tf_records::{Account, Refusal, TIMESTAMP_MAX, Transfer};
+use tf_table::Key;
 
 /// A ledger over 21 rows, with a note for each entry that isn't kept.
 ///
@@ -33,6 +36,7 @@ pub struct Forest<'r, F: AllRows + Drop, A: Allocator + Copy, N: Naming> {
     pub(crate) notes: Vec<Note<A>, A>,
     pub(crate) clock: u64,
     pub(crate) kept: usize,
+    pub(crate) floors: Floors,
     pub(crate) alloc: A,
 }
 
@@ -46,7 +50,7 @@ impl<'r, F: AllRows + Drop, A: Allocator + Copy, N: Naming> Model for Forest<'r,
 
     ghost view = { λ f. record { journal = journal_in (parts_of (F.entries f.rows.fresh) f.rows.manifest); sealed = f.rows.manifest; clock = f.clock; kept = f.kept } };
 
-    ghost invariant = { λ f. IsForest F.has_row F.fits F.takes_any (parts_of (F.entries f.rows.fresh) f.rows.manifest) f.notes.items f.kept };
+    ghost invariant = { λ f. IsForest F.has_row F.fits F.takes_any (parts_of (F.entries f.rows.fresh) f.rows.manifest) f.notes.items f.kept f.floors };
 }
 
 impl<'r, F: AllRows + Drop, A: Allocator + Copy, N: Naming> Forest<'r, F, A, N> {
@@ -68,6 +72,7 @@ impl<'r, F: AllRows + Drop, A: Allocator + Copy, N: Naming> Forest<'r, F, A, N> 
             notes: Vec::new(alloc),
             clock: 0,
             kept: 0,
+            floors: Floors::new(),
             alloc,
         }
     }
@@ -113,6 +118,18 @@ impl<'r, F: AllRows + Drop, A: Allocator + Copy, N: Naming> Forest<'r, F, A, N> 
     {
         rows_answer_look_ups();
         id_use(&self.rows, id)
+    }
+
+    /// Whether a transfer with this id failed for a passing reason: by the look-ups of `id_use`.
+    pub fn failed(&self, id: u128) -> bool
+        ensures { result ≡ is_failed self.now.journal id }
+    {
+        ids_are_unique();
+        rows_answer_look_ups();
+        match id_use(self.rows(), id) {
+            IdUse::Failed => true,
+            IdUse::Free | IdUse::Stored(_) => false,
+        }
     }
 
     /// The status of the pending transfer with this timestamp: by one look-up in a row.
@@ -181,8 +198,16 @@ impl<'r, F: AllRows + Drop, A: Allocator + Copy, N: Naming> Forest<'r, F, A, N> 
             Ok(steps) => steps,
             Err(refusal) => return Err(refusal),
         };
+        self.floors = self.floors.after(entry, &found);
         note_down(&mut self.notes, Note::new(steps));
         Ok(())
+    }
+
+    /// A key of expiry below which there is none.
+    pub(crate) fn floor(&self) -> Key
+        ensures { IsFloor result self.now.journal }
+    {
+        self.floors.present
     }
 
     /// The present length of the journal, which isn't below what was last kept. It takes no memory.
@@ -207,9 +232,12 @@ impl<'r, F: AllRows + Drop, A: Allocator + Copy, N: Naming> Forest<'r, F, A, N> 
         ensures sealed { self.new.sealed ≡ self.old.sealed }
     {
         undo_to(&mut self.rows, &mut self.notes, to.length - self.kept);
+        self.floors = self.floors.back();
     }
 
     /// Lets all entries stand for good, and sets the clock, to which no entry is younger. It takes no memory.
+    ///
+    /// It looks for the first key of expiry, past the tombstones of those that came before it.
     pub fn keep(&mut self, moment: u64)
         requires up_to { IsUpTo moment self.old.journal }
         requires in_range { moment ≤ TIMESTAMP_MAX }
@@ -218,6 +246,8 @@ impl<'r, F: AllRows + Drop, A: Allocator + Copy, N: Naming> Forest<'r, F, A, N> 
         ensures all_kept { self.new.kept ≡ length self.old.journal }
         ensures sealed { self.new.sealed ≡ self.old.sealed }
     {
+        let first = self.rows.first_from(Row::Expiry, &self.floors.present);
+        self.floors = Floors::at(first);
         self.kept += self.notes.len();
         self.notes.clear();
         self.clock = moment;

@@ -3,25 +3,31 @@
 //! A journal is sound where its timestamps rise and each entry was admitted by those before it. So every journal
 //! that a ledger ever holds is sound, between chains and within them.
 
-ghost use Rattle.std.specs.Prelude.{◌≡◌, ◌∷◌, ◌++◌, List, [], ℕ};
+ghost use Rattle.std.specs.Prelude.{◌≡◌, ◌≤◌, ◌∷◌, ◌++◌, List, [], map, Some, IsSome, ℕ};
 ghost use Rattle.std.specs.List.{All};
 ghost use Rattle.tf_forest.specs.Back.{edits_back};
 ghost use Rattle.tf_forest.specs.Changes.{all_changed};
+ghost use Rattle.tf_forest.specs.Due.{due_pairs, transfers_read};
 ghost use Rattle.tf_forest.specs.Edits.{edited, edits, found_for, party_of};
+ghost use Rattle.tf_forest.specs.Forest.{pairs_in};
 ghost use Rattle.tf_forest.specs.LookUps.{found_read, party_read, pending_read, shown_read, status_read, transfer_read, use_read};
 ghost use Rattle.tf_forest.specs.Next.{changes, content_in};
 ghost use Rattle.tf_forest.specs.Parts.{Parts};
 ghost use Rattle.tf_forest.specs.Range.{LeavesInRange};
 ghost use Rattle.tf_journal.specs.declared.entry.Entry.{Entry};
+ghost use Rattle.tf_journal.specs.Due.{due};
+ghost use Rattle.tf_journal.specs.Journal.{last_timestamp};
 ghost use Rattle.tf_journal.specs.Lawful.{IsSound};
 ghost use Rattle.tf_journal.specs.Ledger.{CanGrow};
 ghost use Rattle.tf_journal.specs.Lookup.{id_use_of, shown_with_id, transfer_with_id};
 ghost use Rattle.tf_journal.specs.Status.{pending_at, status_at};
+ghost use Rattle.tf_manifest.specs.declared.row.Row.{Row};
 ghost use Rattle.tf_manifest.specs.Shows.{Content, Shows, value_of};
 ghost use Rattle.tf_table.specs.declared.key.Key.{Key};
 
 use tf_journal::journals_are_within_limits;
-use tf_manifest::{Row, rows_are_maps};
+use tf_manifest::{Row, Value, rows_are_maps};
+use tf_table::content_is_a_map;
 
 /// What a journal's next entry changes in the 21 rows: at the key of an edit the row has what the edit says, and at
 /// every other key what it had. No two edits of a row contradict each other, so their order says nothing. Does nothing.
@@ -77,4 +83,16 @@ pub fn entries_leave_sums_in_range()
     rows_are_maps();
     journals_are_within_limits();
     // Each state that a transfer leaves is one that the rows have afterwards, and no sum of a ledger wraps.
+}
+
+/// The transfers that are due at a moment, in the order of their expiry, are those of the pairs of expiry whose keys are
+/// due, in the order of the keys, each looked up by its key's timestamp. No key of expiry has a timestamp past the
+/// greatest. Does nothing.
+pub fn rows_tell_what_is_due()
+    ensures due { (rows : Parts) (journal : List Entry) → IsSound journal → Shows (content_in rows) journal → (moment : ℕ) → transfers_read (content_in rows) (due_pairs moment (pairs_in rows Row.Expiry)) ≡ map Some (due journal moment) }
+    ensures in_range { (content : Content) (journal : List Entry) → IsSound journal → Shows content journal → (key : Key) → IsSome (content Row.Expiry key) → key.timestamp ≤ last_timestamp }
+{
+    rows_are_maps();
+    content_is_a_map::<Value>();
+    // Both lists rise by the same order, and have the same members.
 }

@@ -10,9 +10,11 @@ mod additions;
 mod all_rows;
 mod change;
 mod compaction;
+mod due;
 mod empty;
 mod entry;
 mod expiries;
+mod floors;
 mod forest;
 mod found;
 mod held;
@@ -38,7 +40,7 @@ pub use found::{Found, Party, look_up};
 pub use held::Held;
 pub use laws::{
     entries_leave_sums_in_range, rows_answer_look_ups, rows_change_by_edits, rows_go_back_by_edits,
-    rows_show_the_next_entry,
+    rows_show_the_next_entry, rows_tell_what_is_due,
 };
 pub use look_ups::{account, id_use, party, pending, status, transfer};
 pub use mutable_rows::{Both, MutableRows, One};

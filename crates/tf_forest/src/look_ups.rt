@@ -78,7 +78,7 @@ pub fn account<S: RowSet>(rows: &S, id: u128) -> Option<Account>
 }
 
 /// The stored transfer with this timestamp.
-fn transfer_at<S: RowSet>(rows: &S, timestamp: u64) -> Option<Transfer>
+pub(crate) fn transfer_at<S: RowSet>(rows: &S, timestamp: u64) -> Option<Transfer>
     requires { (r : Row) → IsTrue (S.has_row r) }
     ensures { result ≡ transfer_at (content_in (S.parts rows.now)) timestamp }
 {

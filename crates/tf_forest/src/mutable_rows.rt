@@ -2,12 +2,13 @@
 ghost use Rattle.std.specs.Prelude.{◌≡◌, ◌==◌, ◌||◌, ◌⊎◌, Bool, false, List, Option, None, IsTrue, IsSome, IfSome, IfOk, IfErr, OnErr, if◌then◌else◌};
 ghost use Rattle.std.specs.Option.{is_some};
 ghost use Rattle.tf_table.specs.Content.{entry_at};
+ghost use Rattle.tf_table.specs.First.{IsFirstAbove};
 ghost use Rattle.tf_table.specs.declared.key.Key.{Key};
 ghost use Rattle.tf_manifest.specs.declared.row.Row.{Row};
 ghost use Rattle.tf_manifest.specs.declared.value.Value.{Value};
 ghost use Rattle.tf_forest.specs.Parts.{Entries, GivesBack, PutsEntry, alone, joined, place_of, seen_rows};
 
-use crate::entry::{Before, entry_in, put_entry, take_back};
+use crate::entry::{Before, entry_in, first_above, put_entry, take_back};
 use crate::held::Held;
 use std::alloc::Allocator;
 use std::marker::PhantomData;
@@ -37,6 +38,11 @@ pub trait MutableRows {
     fn entry(&self, row: Row, key: &Key) -> Before
         requires { IsTrue (has_row row) }
         ensures { result ≡ entry_at key.now (entries self.now row) };
+
+    /// The first key of a row's table above a given one that has an entry, a value or a tombstone, if one has.
+    fn first_above(&self, row: Row, key: &Key) -> Option<Key>
+        requires { IsTrue (has_row row) }
+        ensures { IsFirstAbove key.now (λ found. entry_at found (entries self.now row)) result };
 
     /// Gives a key of a row an entry, a value or None for a tombstone, and tells the one that it had.
     ///
@@ -83,6 +89,10 @@ impl<V: Held, M: MutableTable<V, A>, A: Allocator + Clone, const PLACE: u32> Mut
         entry_in(&self.table, key)
     }
 
+    fn first_above(&self, _row: Row, key: &Key) -> Option<Key> {
+        first_above(&self.table, key)
+    }
+
     fn put(&mut self, _row: Row, key: Key, entry: Option<Value>) -> Result<Before, Refusal> {
         put_entry(&mut self.table, key, entry)
     }
@@ -117,6 +127,14 @@ impl<X: MutableRows + Drop, Y: MutableRows + Drop> MutableRows for Both<X, Y> {
             self.first.entry(row, key)
         } else {
             self.rest.entry(row, key)
+        }
+    }
+
+    fn first_above(&self, row: Row, key: &Key) -> Option<Key> {
+        if X::has_row(row) {
+            self.first.first_above(row, key)
+        } else {
+            self.rest.first_above(row, key)
         }
     }
 

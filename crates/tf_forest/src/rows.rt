@@ -1,10 +1,12 @@
 //! Mutable tables in front of the sealed ones of a manifest.
-ghost use Rattle.std.specs.Prelude.{◌≡◌, []};
+ghost use Rattle.std.specs.Prelude.{◌≡◌, [], ◌∷◌, IsTrue};
+ghost use Rattle.tf_table.specs.Content.{entry_of};
+ghost use Rattle.tf_table.specs.First.{IsFirstAbove};
 ghost use Rattle.tf_manifest.specs.declared.row.Row.{Row};
 ghost use Rattle.tf_manifest.specs.Registries.{AreShelves};
 ghost use Rattle.tf_manifest.specs.View.{no_tables};
 ghost use Rattle.tf_forest.specs.Nest.{AreEmpty};
-ghost use Rattle.tf_forest.specs.Parts.{parts_of};
+ghost use Rattle.tf_forest.specs.Parts.{parts_of, sealed_in};
 
 use crate::{Before, MutableRows, RowSet};
 use std::alloc::Allocator;
@@ -32,6 +34,18 @@ impl<'r, F: MutableRows + Drop, A: Allocator, N: Naming> Rows<'r, F, A, N> {
             manifest: Manifest::new(registries),
         }
     }
+
+    /// The first key of a row above a given one that has an entry, a value or a tombstone, in the mutable table or a
+    /// sealed one.
+    fn first_above(&self, row: Row, key: &Key) -> Option<Key>
+        requires { IsTrue (F.has_row row) }
+        ensures { IsFirstAbove key.now (λ found. entry_of found (F.entries self.now.fresh row ∷ sealed_in self.now.manifest row)) result }
+    {
+        Key::lesser(
+            self.fresh.first_above(row, key),
+            self.manifest.first_above(row, key),
+        )
+    }
 }
 
 impl<'r, F: MutableRows + Drop, A: Allocator, N: Naming> RowSet for Rows<'r, F, A, N> {
@@ -54,6 +68,14 @@ impl<'r, F: MutableRows + Drop, A: Allocator, N: Naming> RowSet for Rows<'r, F, 
             Some(entry) => entry,
             None => self.manifest.find(row, key),
         }
+    }
+
+    fn first_from(&self, row: Row, key: &Key) -> Option<Key> {
+        let mut place = *key;
+        while self.find(row, &place).is_none() {
+            place = self.first_above(row, &place)?;
+        }
+        Some(place)
     }
 
     fn put(&mut self, row: Row, key: Key, entry: Option<Value>) -> Result<Before, Refusal> {

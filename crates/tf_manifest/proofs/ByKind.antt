@@ -3,6 +3,8 @@ use Rattle.std.proofs.Common.{◌≡◌, ℕ, ◌<◌, List, [], length, Option,
 use Rattle.std.specs.Prelude.{slice_index_or}
 use Rattle.std.specs.Option.{option_map}
 use Rattle.tf_table.specs.declared.key.Key.{Key}
+use Rattle.tf_table.specs.Content.{entry_of}
+use Rattle.tf_table.specs.First.{IsFirstAbove}
 use Rattle.tf_manifest.specs.declared.jobs.Job.{Job}
 use Rattle.tf_manifest.specs.declared.jobs.Job.TheVariants as job
 use Rattle.tf_manifest.specs.declared.kind.Kind.{Kind}
@@ -11,7 +13,7 @@ use Rattle.tf_manifest.specs.declared.row.Row.{Row}
 use Rattle.tf_manifest.specs.declared.value.Value.{Value}
 use Rattle.tf_manifest.specs.Jobs.{IsPickedFrom}
 use Rattle.tf_manifest.specs.Kinds.{kind_of}
-use Rattle.tf_manifest.specs.Row.{content_at}
+use Rattle.tf_manifest.specs.Row.{content_at, lists_of}
 use Rattle.tf_manifest.specs.Run.{Run, IsPicked, Stands, count_at}
 use Rattle.tf_manifest.specs.Table.{Shown}
 use Rattle.tf_manifest.specs.View.{View, StoredBy, value_by, rows_by, tables_by, place_by, value_in_kind, content_in, references_in}
@@ -45,6 +47,11 @@ of_row P inside view row k at tables v e p t h =
 pub few : (inside view : View) (row : Row) (k : Kind) (at : ℕ) (tables : List (Shown (StoredBy k))) → inside ≡ view → k ≡ kind_of row → at ≡ place_by k → tables ≡ slice_index_or (rows_by inside k) at []
     → ((level : ℕ) → count_at level tables < 4) → (level : ℕ) → count_at level (tables_by view (kind_of row)) < 4
 few inside view row k at tables v e p t h = of_row (λ V ts. (level : ℕ) → count_at level ts < 4) inside view row k at tables v e p t h
+
+-- the first key above another in a row's tables
+pub first : (inside view : View) (row : Row) (k : Kind) (at : ℕ) (tables : List (Shown (StoredBy k))) (below : Key) (result : Option Key) → inside ≡ view → k ≡ kind_of row → at ≡ place_by k → tables ≡ slice_index_or (rows_by inside k) at []
+    → IsFirstAbove below (λ key. entry_of key (lists_of tables)) result → IsFirstAbove below (λ key. entry_of key (lists_of (tables_by view (kind_of row)))) result
+first inside view row k at tables below result v e p t h = of_row (λ V ts. IsFirstAbove below (λ key. entry_of key (lists_of ts)) result) inside view row k at tables v e p t h
 
 -- what follows where a row is full
 pub full : (Q : Type 0) (inside view : View) (row : Row) (k : Kind) (at : ℕ) (tables : List (Shown (StoredBy k))) → inside ≡ view → k ≡ kind_of row → at ≡ place_by k → tables ≡ slice_index_or (rows_by inside k) at []

@@ -13,3 +13,4 @@ pub mod Spelled
 pub mod Views
 pub mod Answered
 pub mod ByKind
+pub mod Firsts

@@ -1,8 +1,12 @@
 //! The sealed tables of all rows.
 ghost use Rattle.std.specs.Prelude.{◌≡◌, ◌≤◌};
+ghost use Rattle.tf_table.specs.Content.{entry_of};
+ghost use Rattle.tf_table.specs.First.{IsFirstAbove};
+ghost use Rattle.tf_manifest.specs.Kinds.{kind_of};
 ghost use Rattle.tf_manifest.specs.Limit.{IsWithinLimit};
 ghost use Rattle.tf_manifest.specs.Registries.{AreShelves};
-ghost use Rattle.tf_manifest.specs.View.{View, IsLight, content_in, no_tables, references_in};
+ghost use Rattle.tf_manifest.specs.Row.{lists_of};
+ghost use Rattle.tf_manifest.specs.View.{View, IsLight, content_in, no_tables, references_in, tables_by};
 
 use crate::{IdStamp, Kind, KindRows, Naming, Pushes, Registries, Row, State, Stored, Value};
 use std::alloc::Allocator;
@@ -147,6 +151,24 @@ impl<'r, A: Allocator, N: Naming> Manifest<'r, A, N> {
             Kind::State => self.states.find(0, key),
             Kind::Sums => self.sums.find(0, key),
             Kind::Status => self.statuses.find(0, key),
+        }
+    }
+
+    /// The first key above `key` that has an entry, a value or a tombstone, in one of a row's tables, if there is one.
+    ///
+    /// It goes over all tables of the row, by one search in each. It takes no memory.
+    pub fn first_above(&self, row: Row, key: &Key) -> Option<Key>
+        ensures { IsFirstAbove key.now (λ found. entry_of found (lists_of (tables_by self.now (kind_of row)))) result }
+    {
+        match row.kind() {
+            Kind::Stamp(row) => self.stamps.row(row.index()).first_above(key),
+            Kind::Account => self.accounts.row(0).first_above(key),
+            Kind::Transfer => self.transfers.row(0).first_above(key),
+            Kind::Id => self.ids.row(0).first_above(key),
+            Kind::Unit(row) => self.units.row(row.index()).first_above(key),
+            Kind::State => self.states.row(0).first_above(key),
+            Kind::Sums => self.sums.row(0).first_above(key),
+            Kind::Status => self.statuses.row(0).first_above(key),
         }
     }
 

@@ -2,6 +2,7 @@
 ghost use Rattle.std.specs.Prelude.{◌≡◌, ◌<◌, ◌≤◌, [], ◌∷◌, length, map};
 ghost use Rattle.std.specs.Option.{option_copied, option_map};
 ghost use Rattle.tf_table.specs.Content.{entry_of};
+ghost use Rattle.tf_table.specs.First.{IsFirstAbove};
 ghost use Rattle.tf_manifest.specs.Table.{Shown};
 ghost use Rattle.tf_manifest.specs.Reference.{shown_of};
 ghost use Rattle.tf_manifest.specs.Row.{lists_of, content_at, is_nil, weight, IsRow};
@@ -117,6 +118,15 @@ impl<'r, V: RowValue, A: Allocator, N: Naming> Tables<'r, V, A, N> {
         }
     }
 
+    /// The first key above `key` that has an entry, a value or a tombstone, in one of the tables, if there is one.
+    ///
+    /// It goes over all tables, by one search in each.
+    pub(crate) fn first_above(&self, key: &Key) -> Option<Key>
+        ensures { IsFirstAbove key.now (λ found. entry_of found (lists_of self.now)) result }
+    {
+        first_entry(self.references.as_slice(), key)
+    }
+
     /// Puts a table that was just sealed in front of all others. It takes no memory.
     pub fn add(&mut self, table: TableRef<'r, V, A, N>)
         requires room { length self.old < 64 }
@@ -143,4 +153,18 @@ fn newest_entry<'r, V: RowValue, A: Allocator, N: Naming>(
         }
     }
     None
+}
+
+/// The first key above `key` that has an entry in one of the tables.
+fn first_entry<'r, V: RowValue, A: Allocator, N: Naming>(
+    references: &[TableRef<'r, V, A, N>],
+    key: &Key,
+) -> Option<Key>
+    ensures { IsFirstAbove key.now (λ found. entry_of found (lists_of (map shown_of references.now))) result }
+{
+    let mut first = None;
+    for reference in references {
+        first = Key::lesser(first, reference.table().table().first_above(key));
+    }
+    first
 }

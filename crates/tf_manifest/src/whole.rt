@@ -2,12 +2,13 @@
 ghost use Rattle.std.specs.Prelude.{◌≡◌, ◌<◌, [], ◌∷◌, length, Option, IsSome, IfOk, IfErr, OnOk, OnErr};
 ghost use Rattle.std.specs.Option.{option_copied};
 ghost use Rattle.tf_btree.specs.Rows.{IsRising};
-ghost use Rattle.tf_table.specs.Content.{entry_at};
+ghost use Rattle.tf_table.specs.Content.{entry_at, entry_of};
+ghost use Rattle.tf_table.specs.First.{IsFirstAbove, IsFirstFrom};
 ghost use Rattle.tf_table.specs.Key.{key_cmp};
 ghost use Rattle.tf_manifest.specs.Install.{OnStale, OnFull, IfNoMemory};
 ghost use Rattle.tf_manifest.specs.Limit.{one_more};
 ghost use Rattle.tf_manifest.specs.Reference.{shown_of};
-ghost use Rattle.tf_manifest.specs.Row.{weight};
+ghost use Rattle.tf_manifest.specs.Row.{lists_of, weight};
 ghost use Rattle.tf_manifest.specs.Run.{IsMergeOf, Stands, Installs};
 ghost use Rattle.tf_manifest.specs.Whole.{Whole, row_at, SameRow, sealed_of, with_entry, with_back, Enters, Puts, IsRestored};
 
@@ -78,6 +79,28 @@ impl<'r, V: RowValue, M: MutableTable<V, A>, A: Allocator + Clone, N: Naming> Wh
             Some(entry) => entry,
             None => self.tables.find(key),
         }
+    }
+
+    /// The first key at or above `key` that has a value in the row's content, if there is one.
+    ///
+    /// Where `key` has a value it is looked up alone. Else, up to the first key with a value, each key above it that a
+    /// table has costs a search and a look-up in each table: so does each tombstone that is passed over. It takes no
+    /// memory.
+    pub fn first_from(&self, key: &Key) -> Option<Key>
+        ensures { IsFirstFrom key.now (λ found. row_at found self.now) result }
+    {
+        let mut place = *key;
+        while self.find(&place).is_none() {
+            place = self.first_above(&place)?;
+        }
+        Some(place)
+    }
+
+    /// The first key above `key` that has an entry, a value or a tombstone, in the mutable table or a sealed one.
+    fn first_above(&self, key: &Key) -> Option<Key>
+        ensures { IsFirstAbove key.now (λ found. entry_of found (self.now.fresh ∷ lists_of self.now.tables)) result }
+    {
+        Key::lesser(self.fresh.first_above(key), self.tables.first_above(key))
     }
 
     /// Gives a key the entry back that `put` told, or none. It takes no memory.

@@ -1,6 +1,7 @@
 pub mod Combine
 pub mod Determined
 pub mod Filters
+pub mod First
 pub mod Found
 pub mod Keys
 pub mod LaidOut

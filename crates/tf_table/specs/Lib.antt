@@ -4,5 +4,6 @@ pub mod Span
 pub mod Filter
 pub mod Rows
 pub mod Content
+pub mod First
 pub mod Merge
 pub mod Mutable

@@ -1,4 +1,6 @@
 //! Keys of rows.
+ghost use Rattle.std.specs.Prelude.{◌≡◌};
+ghost use Rattle.tf_table.specs.First.{lesser_key};
 
 /// The key of a row: an indexed value, and the timestamp of the record that has it.
 ///
@@ -15,4 +17,16 @@ impl Key {
         value: 0,
         timestamp: 0,
     };
+
+    /// The lesser of two keys, or the one that is there.
+    #[inline]
+    pub fn lesser(first: Option<Key>, second: Option<Key>) -> Option<Key>
+        ensures { result ≡ lesser_key first second }
+    {
+        match (first, second) {
+            (None, second) => second,
+            (first, None) => first,
+            (Some(first), Some(second)) => Some(first.min(second)),
+        }
+    }
 }

@@ -5,6 +5,7 @@ ghost use Rattle.tf_btree.specs.Rows.{IsRising, with_row};
 ghost use Rattle.tf_table.specs.declared.key.Key.{Key};
 ghost use Rattle.tf_table.specs.Key.{key_cmp};
 ghost use Rattle.tf_table.specs.Content.{entry_at};
+ghost use Rattle.tf_table.specs.First.{IsFirstAbove};
 ghost use Rattle.tf_table.specs.Mutable.{in_order, IsLogged, given_back};
 
 use crate::draft::Draft;
@@ -16,9 +17,10 @@ use tf_records::Refusal;
 /// Rows in the order in which they came. Each key comes once.
 ///
 /// A row is pushed at the end, and the room doubles where it is full; `clear` keeps it. While the keys rise, a row is
-/// found in a number of steps that grows with the logarithm of the rows, and else by a walk from the newest one back. To
-/// take the newest row back moves no other. The first seal of rows that don't rise sorts them, with room for as many
-/// rows at most beside them, and they rise from then on.
+/// found in a number of steps that grows with the logarithm of the rows, and so is the first key above another; else a row
+/// by a walk from the newest one back, and the first key above another by a walk over all. To take the newest row back
+/// moves no other. The first seal of rows that don't rise sorts them, with room for as many rows at most beside them, and
+/// they rise from then on.
 #[derive(Drop)]
 pub struct Log<V: Repeats, A: Allocator> {
     rows: Vec<(Key, Option<V>), A>,
@@ -66,6 +68,14 @@ impl<V: Repeats, A: Allocator + Clone> MutableTable<V, A> for Log<V, A> {
         match place_of(&self.rows, self.rises, key) {
             Some(place) => Some(self.rows[place].1.as_ref()),
             None => None,
+        }
+    }
+
+    fn first_above(&self, key: &Key) -> Option<Key> {
+        if self.rises {
+            first_by_halving(&self.rows, key)
+        } else {
+            first_by_walk(&self.rows, key)
         }
     }
 
@@ -153,6 +163,28 @@ fn place_by_walk<V>(rows: &[(Key, Option<V>)], key: &Key) -> Option<usize>
         }
     }
     None
+}
+
+/// The first key above this one.
+fn first_by_halving<V>(rows: &[(Key, Option<V>)], key: &Key) -> Option<Key>
+    requires { IsRising key_cmp rows.now }
+    ensures { IsFirstAbove key.now (λ found. entry_at found rows.now) result }
+{
+    let place = rows.partition_point(|row| row.0.cmp(key).is_le());
+    Some(rows.get(place)?.0)
+}
+
+/// The same of keys in any order.
+fn first_by_walk<V>(rows: &[(Key, Option<V>)], key: &Key) -> Option<Key>
+    ensures { IsFirstAbove key.now (λ found. entry_at found rows.now) result }
+{
+    let mut first = None;
+    for row in rows {
+        if row.0.cmp(key).is_gt() {
+            first = Key::lesser(first, Some(row.0));
+        }
+    }
+    first
 }
 
 /// Whether the keys of rows that rise still rise with this one behind them.

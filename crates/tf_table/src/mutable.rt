@@ -5,6 +5,7 @@ ghost use Rattle.tf_btree.specs.Rows.{IsRising, with_row};
 ghost use Rattle.tf_table.specs.declared.key.Key.{Key};
 ghost use Rattle.tf_table.specs.Key.{key_cmp};
 ghost use Rattle.tf_table.specs.Content.{entry_at};
+ghost use Rattle.tf_table.specs.First.{IsFirstAbove};
 ghost use Rattle.tf_table.specs.Mutable.{given_back};
 
 use crate::{Key, Repeats, Sealed, seal};
@@ -40,6 +41,10 @@ pub trait MutableTable<V: Repeats, A: Allocator + Clone>: Drop {
     /// The entry of a key, if there is one: its value, or None inside for a tombstone.
     fn find(&self, key: &Key) -> Option<Option<&V>>
         ensures { option_map option_copied result ≡ entry_at key.now (rows self.now) };
+
+    /// The first key above `key` that has an entry, a value or a tombstone, if there is one.
+    fn first_above(&self, key: &Key) -> Option<Key>
+        ensures { IsFirstAbove key.now (λ found. entry_at found (rows self.now)) result };
 
     /// Gives a key an entry, a value or None for a tombstone, and tells the one that it had.
     ///
@@ -101,6 +106,18 @@ impl<V: Repeats, A: Allocator + Clone> MutableTable<V, A> for Tree<Key, Option<V
             Some(entry) => Some(entry.as_ref()),
             None => None,
         }
+    }
+
+    fn first_above(&self, key: &Key) -> Option<Key> {
+        // Only the length call tells that the keys rise.
+        let _rows = Tree::len(self);
+        let mut rows = self.seek(key);
+        let (first, _) = rows.next()?;
+        if first.cmp(key).is_gt() {
+            return Some(*first);
+        }
+        let (second, _) = rows.next()?;
+        Some(*second)
     }
 
     fn put(&mut self, key: Key, entry: Option<V>) -> Result<Option<Option<V>>, Refusal>

@@ -4,12 +4,13 @@ ghost use Rattle.std.specs.Option.{option_copied, option_map};
 ghost use Rattle.tf_btree.specs.Rows.{IsRising};
 ghost use Rattle.tf_table.specs.Key.{key_cmp};
 ghost use Rattle.tf_table.specs.Content.{entry_at, AreTombstones, HaveOneEntry};
+ghost use Rattle.tf_table.specs.First.{IsFirstAbove};
 ghost use Rattle.tf_table.specs.Merge.{seen};
 ghost use Rattle.tf_table.specs.Span.{HasSpan, timestamps};
 
 use crate::entries::Entries;
 use crate::filter::Filter;
-use crate::search::count_below_between;
+use crate::search::{Start, count_below_between, count_upto};
 use crate::{Key, Span};
 use std::alloc::Allocator;
 use std::marker::Model;
@@ -110,6 +111,16 @@ impl<V, A: Allocator> Sealed<V, A> {
             return Some(self.entries.at(place));
         }
         None
+    }
+
+    /// The first key above `key` that has an entry, a value or a tombstone, if there is one.
+    ///
+    /// It takes a number of comparisons that grows with the logarithm of the rows, and reads no entry.
+    pub fn first_above(&self, key: &Key) -> Option<Key>
+        ensures { IsFirstAbove key.now (λ found. entry_at found self.now) result }
+    {
+        let place = count_upto(&self.keys, key, Start::Middle);
+        self.keys.get(place).copied()
     }
 
     /// The row at a place, counted from 0.

@@ -45,8 +45,9 @@ invariant_of-self-2 g c =
     c.note_down.ensures
     ∙ ap (λ (ns : List (List Step)). ns ++ c.new.result ∷ []) c.make_room.ensures.items
     ∙ ap (λ (n : List Step). c.self.inside.notes.items ++ n ∷ []) c.new.ensures in
-    subst (λ (ns : List (List Step)). IsForest g.F.MutableRows.has_row g.F.MutableRows.fits g.F.MutableRows.takes_any new ns c.self.inside.kept) (sym noted)
-    (grown_forest g.F.MutableRows.has_row g.F.MutableRows.fits g.F.MutableRows.takes_any c.rows_spell_the_journal_they_show.ensures old new c.self.inside.notes.items c.in-Ok.steps.items c.self.inside.kept e c.self.invariant grows grown)
+    subst (λ (ns : List (List Step)). IsForest g.F.MutableRows.has_row g.F.MutableRows.fits g.F.MutableRows.takes_any new ns c.self.inside.kept c.after-self-inside.result) (sym noted)
+    (grown_forest g.F.MutableRows.has_row g.F.MutableRows.fits g.F.MutableRows.takes_any c.rows_spell_the_journal_they_show.ensures old new c.self.inside.notes.items c.in-Ok.steps.items c.self.inside.kept c.self.inside.floors e c.self.invariant grows grown
+    c.after-self-inside.result (c.after-self-inside.ensures.holds (journal_in old) c.self.inside.kept c.self.invariant.shows.sound grows is c.self.invariant.floors))
 
 pub returns-clause-addition : goal.returns-clause-addition
 returns-clause-addition g c =
@@ -63,7 +64,7 @@ returns-clause-addition g c =
       back = c.in-Ok.ensures.back;
     } in
     record {
-      ok = grown_journal g.F.MutableRows.has_row g.F.MutableRows.fits g.F.MutableRows.takes_any c.rows_spell_the_journal_they_show.ensures old new c.self.inside.notes.items c.in-Ok.steps.items c.self.inside.kept e c.self.invariant grows grown
+      ok = grown_journal g.F.MutableRows.has_row g.F.MutableRows.fits g.F.MutableRows.takes_any c.rows_spell_the_journal_they_show.ensures old new c.self.inside.notes.items c.in-Ok.steps.items c.self.inside.kept c.self.inside.floors e c.self.invariant grows grown
           ∙ ap (λ (j : List Entry). j ++ e ∷ []) same;
       err = tt;
       refusal = tt;

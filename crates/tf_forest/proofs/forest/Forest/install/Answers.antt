@@ -16,7 +16,7 @@ invariant_of-self g c =
     let new : Parts = parts_of fresh c.install.new.self in
     let all : c.self.inside.kept ≡ length (journal_in old) =
     ap (λ (v : View). v.kept) c.self.view_is ∙ c.requires ∙ ap (λ (v : View). length v.journal) (sym c.self.view_is) in
-    same_forest g.F.MutableRows.has_row g.F.MutableRows.fits g.F.MutableRows.takes_any c.rows_spell_the_journal_they_show.ensures old new c.self.inside.notes.items c.self.inside.kept
+    same_forest g.F.MutableRows.has_row g.F.MutableRows.fits g.F.MutableRows.takes_any c.rows_spell_the_journal_they_show.ensures old new c.self.inside.notes.items c.self.inside.kept c.self.inside.floors
     (same_in_front fresh c.self.inside.rows.manifest c.install.new.self c.install.ensures.content) c.self.invariant.shows.values c.self.invariant all
 
 pub returns-clause-journal : goal.returns-clause-journal

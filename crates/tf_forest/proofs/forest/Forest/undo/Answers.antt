@@ -1,5 +1,6 @@
-use Rattle.std.proofs.Common.{◌≡◌, ◌-◌, ◌∙◌, List, length, take, sym, ap, arith}
+use Rattle.std.proofs.Common.{◌≡◌, ◌-◌, List, length, take, ap, subst, arith}
 use Rattle.tf_journal.specs.declared.entry.Entry.{Entry}
+use Rattle.tf_forest.specs.Floors.{HaveFloors}
 use Rattle.tf_forest.specs.Forest.{View, journal_in}
 use Rattle.tf_forest.specs.Parts.{parts_of}
 use Rattle.tf_forest.proofs.Notes.{cut_is_taken, cut_length}
@@ -7,20 +8,6 @@ use Rattle.tf_forest.proofs.forest.Forest.undo.Goals as goal
 
 pub invariant_of-self : goal.invariant_of-self
 invariant_of-self g c =
-    let old : List Entry = journal_in (parts_of (g.F.MutableRows.entries c.self.inside.rows.fresh) c.self.inside.rows.manifest) in
-    let new : List Entry = journal_in (parts_of (g.F.MutableRows.entries c.undo_to.new.rows.fresh) c.undo_to.new.rows.manifest) in
-    let kept = c.self.inside.kept in
-    let count = c.self.invariant.count in
-    let own_kept : kept ≡ c.args.self.now.kept = ap (λ (v : View). v.kept) c.self.view_is in
-    let own_length : length old ≡ length c.args.self.now.journal = ap (λ (v : View). length v.journal) c.self.view_is in
-    let not_kept = c.requires.not_kept in
-    let present = c.requires.present in
-    let left = c.undo_to.ensures.left in
-    let less = cut_length old new (length c.self.inside.notes.items - (c.args.to.length - kept)) c.undo_to.ensures.cut in
-    record { shows = c.undo_to.ensures.shows; right = c.undo_to.ensures.right; count = omega arith }
-
-pub returns-clause-cut : goal.returns-clause-cut
-returns-clause-cut g c =
     let old : List Entry = journal_in (parts_of (g.F.MutableRows.entries c.self.inside.rows.fresh) c.self.inside.rows.manifest) in
     let new : List Entry = journal_in (parts_of (g.F.MutableRows.entries c.undo_to.new.rows.fresh) c.undo_to.new.rows.manifest) in
     let n = c.args.to.length in
@@ -31,5 +18,11 @@ returns-clause-cut g c =
     let not_kept = c.requires.not_kept in
     let present = c.requires.present in
     let left = c.undo_to.ensures.left in
-    sym (cut_is_taken old new (length c.self.inside.notes.items - (n - kept)) n c.undo_to.ensures.cut (omega arith))
-    ∙ ap (λ (v : View). take n v.journal) c.self.view_is
+    let less = cut_length old new (length c.self.inside.notes.items - (n - kept)) c.undo_to.ensures.cut in
+    let taken : take n old ≡ new = cut_is_taken old new (length c.self.inside.notes.items - (n - kept)) n c.undo_to.ensures.cut (omega arith) in
+    record {
+      shows = c.undo_to.ensures.shows;
+      right = c.undo_to.ensures.right;
+      count = omega arith;
+      floors = subst (λ (journal : List Entry). HaveFloors c.back-self-inside.result journal kept) taken (c.back-self-inside.ensures.holds old kept n (omega arith) c.self.invariant.floors);
+    }

@@ -1,0 +1,6 @@
+use Rattle.std.proofs.Common.{sym, subst}
+use Rattle.tf_forest.specs.Floors.{IsFloor}
+use Rattle.tf_forest.proofs.forest.Forest.next_due.Goals as goal
+
+pub next_due-requires-clause-floor : goal.next_due-requires-clause-floor
+next_due-requires-clause-floor g c = subst (IsFloor c.floor.result) (sym c.rows.ensures.journal) c.floor.ensures

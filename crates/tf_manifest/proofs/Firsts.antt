@@ -1,0 +1,78 @@
+-- The first key with a value in a row, found by a walk over the keys that its tables have.
+use Rattle.std.proofs.Common.{◌≡◌, ℕ, ◌+◌, ◌<◌, List, [], ◌∷◌, ◌++◌, length, map, take, get_or, Option, Some, None, IsSome, Bool, true, false, not, sym, ◌∙◌, ap, subst}
+use Rattle.std.specs.Option.{is_some, option_copied, option_flatten}
+use Rattle.std.specs.Ordering.{is_lt}
+use Rattle.std.specs.declared.cmp.Ordering.TheVariants.{Less}
+use Rattle.std.proofs.lemmas.Bool.{false≢true}
+use Rattle.std.proofs.lemmas.Cmp.{tied_itself}
+use Rattle.std.proofs.lemmas.List.{take_more, map-append}
+use denote.Ref.{Bor}
+use Rattle.tf_btree.specs.Rows.{rows_above}
+use Rattle.tf_table.specs.declared.key.Key.{Key}
+use Rattle.tf_table.specs.Key.{key_cmp}
+use Rattle.tf_table.specs.Content.{combined, entry_at, entry_of}
+use Rattle.tf_table.specs.First.{IsFirstFrom, IsFirstAbove, lesser_key}
+use Rattle.tf_table.proofs.Determined.{ordering_cases, value_at-combined}
+use Rattle.tf_table.proofs.First.{fewer_above, first_of_lists}
+use Rattle.tf_table.proofs.Keys.{keys_total, exact_keys}
+use Rattle.tf_table.proofs.Rising.{less_back, not_below_more, not_less_from}
+use Rattle.tf_manifest.specs.Table.{Shown}
+use Rattle.tf_manifest.specs.Row.{lists_of, value_in}
+
+-- what a look-up says
+pub nothing_found : {X : Type 0} (r : Option (Bor X)) (value : Option X) (b : Bool) → option_copied r ≡ value → is_some r ≡ not b → b ≡ true → value ≡ None
+nothing_found None value b e n t = sym e
+nothing_found (Some x) value b e n t = absurd (false≢true (sym (n ∙ ap not t)))
+
+pub value_found : {X : Type 0} (r : Option (Bor X)) (value : Option X) (b : Bool) → option_copied r ≡ value → is_some r ≡ not b → b ≡ false → IsSome value
+value_found None value b e n t = absurd (false≢true (n ∙ ap not t))
+value_found (Some x) value b e n t = ap is_some (sym e)
+
+module _ {V : Type 0} where
+  -- one more table
+  pub first_further : {R : Type 0} (shows : R → Shown V) (references : List R) (i : ℕ) (r : R) (below : Key) (a b : Option Key) → i < length references → r ≡ get_or references i r
+      → IsFirstAbove below (λ key. entry_of key (lists_of (map shows (take i references)))) a → IsFirstAbove below (λ key. entry_at key (shows r).table.rows) b
+      → IsFirstAbove below (λ key. entry_of key (lists_of (map shows (take (i + 1) references)))) (lesser_key a b)
+  first_further {R} shows references i r below a b within same g h =
+      let before = take i references in
+      let more : take (i + 1) references ≡ before ++ r ∷ [] = take_more references i r within ∙ ap (λ (x : R). before ++ x ∷ []) (sym same) in
+      let all : lists_of (map shows (take (i + 1) references)) ≡ lists_of (map shows before) ++ (shows r).table.rows ∷ [] =
+      ap (λ (rs : List R). lists_of (map shows rs)) more ∙ ap lists_of (map-append shows before (r ∷ [])) ∙ map-append (λ (t : Shown V). t.table.rows) (map shows before) (shows r ∷ []) in
+      subst (λ (lists : List (List (Key × Option V))). IsFirstAbove below (λ key. entry_of key lists) (lesser_key a b)) (sym all)
+      (first_of_lists below (lists_of (map shows before)) (shows r).table.rows a b g h)
+
+  -- a walk from a key on has come to another, and has passed no value
+  pub record HasComeTo (lists : List (List (Key × Option V))) (from place : Key) : Type 0 where
+    pub among : is_lt (key_cmp place from) ≡ false
+    pub before : (key : Key) → is_lt (key_cmp key from) ≡ false → key_cmp key place ≡ Less → value_in key lists ≡ None
+
+  -- nothing was passed where it has no value
+  none_upto : (lists : List (List (Key × Option V))) (from place key : Key) → HasComeTo lists from place → value_in place lists ≡ None → (key_cmp place key ≡ Less → value_in key lists ≡ None) → is_lt (key_cmp key from) ≡ false → value_in key lists ≡ None
+  none_upto lists from place key came none above among = ordering_cases (key_cmp key place)
+      (λ l. came.before key among l)
+      (λ e. ap (λ (k : Key). value_in k lists) (exact_keys key place e) ∙ none)
+      (λ g. above (less_back key_cmp keys_total key place g))
+
+  pub starts : (lists : List (List (Key × Option V))) (from : Key) → HasComeTo lists from from
+  starts lists from = record { among = ap is_lt (tied_itself keys_total from); before = λ key among less. absurd (not_less_from (key_cmp key from) among less) }
+
+  pub comes_further : (lists : List (List (Key × Option V))) (from place next : Key) → HasComeTo lists from place → value_in place lists ≡ None → IsFirstAbove place (λ key. entry_of key lists) (Some next) → HasComeTo lists from next
+  comes_further lists from place next came none first = record {
+    among = not_below_more key_cmp keys_total place next from first.among came.among;
+    before = λ key among less. none_upto lists from place key came none (λ above. ap option_flatten (first.before key above less)) among;
+  }
+
+  pub comes_to_end : (lists : List (List (Key × Option V))) (from place : Key) (found : Option Key) → HasComeTo lists from place → value_in place lists ≡ None → IsFirstAbove place (λ key. entry_of key lists) None → found ≡ None → IsFirstFrom from (λ key. value_in key lists) found
+  comes_to_end lists from place found came none first end =
+      subst (λ (f : Option Key). IsFirstFrom from (λ key. value_in key lists) f) (sym end) (λ key among. none_upto lists from place key came none (λ above. ap option_flatten (first key above)) among)
+
+  pub comes_to_value : (lists : List (List (Key × Option V))) (from place : Key) → HasComeTo lists from place → IsSome (value_in place lists) → IsFirstFrom from (λ key. value_in key lists) (Some place)
+  comes_to_value lists from place came there = record { among = came.among; there = there; before = came.before }
+
+  -- how many keys the walk has before it at most
+  abbrev pub keys_above : List (List (Key × Option V)) → Key → ℕ
+  keys_above lists place = length (rows_above key_cmp place (combined key_cmp lists))
+
+  pub keys_above-fewer : (lists : List (List (Key × Option V))) (place next : Key) → IsFirstAbove place (λ key. entry_of key lists) (Some next) → keys_above lists next < keys_above lists place
+  keys_above-fewer lists place next first =
+      fewer_above place next first.among (combined key_cmp lists) (ap is_some (value_at-combined key_cmp keys_total exact_keys next lists) ∙ first.there)
