@@ -1,6 +1,6 @@
 -- Keys of expiry below which there is none: what an entry, an undo and a keep make of them.
-use Rattle.std.proofs.Common.{◌≡◌, ℕ, ◌+◌, ◌-◌, ◌≤◌, List, [], ◌∷◌, ◌++◌, length, take, map, Option, Some, None, Bool, true, false, not, ◌&&◌, cond, refl, sym, ◌∙◌, ap, subst, inl, inr, arith, append-nil}
-use Rattle.std.specs.Prelude.{◌==◌, nat_le, if◌then◌else◌}
+use Rattle.std.proofs.Common.{◌≡◌, ℕ, ◌+◌, ◌-◌, ◌≤◌, List, [], ◌∷◌, ◌++◌, length, take, Option, Some, None, true, false, not, ◌&&◌, refl, sym, ◌∙◌, ap, subst, inl, inr, arith}
+use Rattle.std.specs.Prelude.{◌==◌}
 use Rattle.std.specs.Option.{option_map_or, unwrap_or}
 use Rattle.std.specs.Ordering.{is_gt, is_lt, ord_min}
 use Rattle.std.specs.declared.cmp.Ordering.{Ordering}
@@ -8,9 +8,8 @@ use Rattle.std.specs.declared.cmp.Ordering.TheVariants.{Less, Equal, Greater}
 use Rattle.std.proofs.lemmas.Bool.{and_from, both_ways, cases_lt, true≢false}
 use Rattle.std.proofs.lemmas.Cmp.{tied_itself}
 use Rattle.std.proofs.lemmas.List.{length-append, length-take, take-append-le, take-take, take_all}
-use Rattle.std.proofs.lemmas.Option.{none-some, same_Some}
+use Rattle.std.proofs.lemmas.Option.{none-some}
 use Rattle.tf_btree.proofs.Order.{below_upto}
-use Rattle.tf_records.specs.declared.account.Account.{Account}
 use Rattle.tf_records.specs.declared.transfer.Transfer.{Transfer}
 use Rattle.tf_journal.specs.declared.entry.Entry.{Entry}
 use Rattle.tf_journal.specs.declared.entry.Entry.TheVariants as entry

@@ -1,6 +1,6 @@
 -- The pairs of expiry that are due are those of the transfers that are due, in the order of their expiry.
 use Rattle.std.proofs.Common.{◌≡◌, ℕ, suc, ◌<◌, ◌≤◌, List, [], ◌∷◌, map, filter, fold, length, Option, Some, None, Bool, true, false, not, ◌&&◌, cond, refl, sym, ◌∙◌, ap, subst, inl, inr, ◌⊎◌, arith}
-use Rattle.std.specs.Prelude.{◌==◌, nat_le, if◌then◌else◌}
+use Rattle.std.specs.Prelude.{◌==◌, nat_le}
 use Rattle.std.specs.List.{AllByRecursion}
 use Rattle.std.specs.Option.{IsSome, is_some, option_and_then}
 use Rattle.std.specs.Ordering.{is_lt, nat_cmp, ordering_then}
@@ -33,7 +33,7 @@ use Rattle.tf_table.proofs.Rising.{greater_back, less_from}
 use Rattle.tf_manifest.specs.declared.row.Row.TheVariants as row
 use Rattle.tf_manifest.specs.declared.value.Value.{Value}
 use Rattle.tf_manifest.specs.declared.value.Value.TheVariants as value
-use Rattle.tf_manifest.specs.Rows.{Pair, can_expire, rows_of}
+use Rattle.tf_manifest.specs.Rows.{Pair, rows_of}
 use Rattle.tf_manifest.specs.Shows.{Content, Shows, value_of}
 use Rattle.tf_manifest.proofs.Members.{Has, all_has, chosen, has_made, has_map}
 use Rattle.tf_manifest.proofs.OneValue.{contained, has_kept, transfer_entry}

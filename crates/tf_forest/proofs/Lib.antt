@@ -1,4 +1,5 @@
 pub mod Changes
+pub mod Fresh
 pub mod Grown
 pub mod Settled
 pub mod Statuses
@@ -23,4 +24,3 @@ pub mod DueRows
 pub mod BelowFloors
 pub mod Added
 pub mod Sealed
-pub mod NoEntries

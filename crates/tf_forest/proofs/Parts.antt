@@ -1,6 +1,5 @@
 -- Rows with their values seen as a row's: what they have at keys, and what changes of them are.
-use Rattle.std.proofs.Common.{◌≡◌, ℕ, subst, List, [], ◌∷◌, ◌++◌, map, filter, find, Option, Some, None, Bool, true, false, cond, refl, sym, ◌∙◌, ap}
-use Rattle.std.specs.Prelude.{◌==◌}
+use Rattle.std.proofs.Common.{◌≡◌, List, [], ◌∷◌, ◌++◌, map, filter, find, Option, Some, None, Bool, true, false, cond, refl, sym, ◌∙◌, ap}
 use Rattle.std.specs.Ordering.{is_eq, is_lt, is_gt}
 use Rattle.std.specs.Option.{IsSome, is_some, option_map, option_flatten}
 use Rattle.std.proofs.lemmas.List.{map-append}
@@ -12,8 +11,7 @@ use Rattle.tf_table.specs.Mutable.{given_back}
 use Rattle.tf_manifest.specs.declared.value.Value.{Value}
 use Rattle.tf_manifest.proofs.Entries.{with_row-here}
 use Rattle.tf_table.proofs.Logged.{given_back-is}
-use Rattle.tf_manifest.specs.declared.row.Row.{Row}
-use Rattle.tf_forest.specs.Parts.{alone, place_of, seen_row, seen_rows}
+use Rattle.tf_forest.specs.Parts.{seen_row, seen_rows}
 
 module _ {V : Type 0} (seen : V → Value) where
   pub entry_at-seen : (key : Key) (rows : List (Key × Option V)) → entry_at key (seen_rows seen rows) ≡ option_map (option_map seen) (entry_at key rows)
@@ -102,10 +100,6 @@ module _ {V : Type 0} (seen : V → Value) where
     has_entry : (x : Option (Option V)) → is_some (option_map (option_map seen) x) ≡ true → is_some x ≡ true
     has_entry None e = e
     has_entry (Some y) e = refl
-
--- of one table alone, what its own row has is what it has
-pub new_alone : (place : ℕ) (rows : List (Key × Option Value)) (r : Row) (key : Key) → (place_of r == place) ≡ true → entry_at key (alone place rows r) ≡ None → entry_at key rows ≡ None
-new_alone place rows r key own none = subst (λ (b : Bool). entry_at key (cond b rows []) ≡ None) own none
 
 -- a table with an entry has one at its key
 pub there-put : (key : Key) (entry : Option Value) (rows : List (Key × Option Value)) → IsSome (entry_at key (with_row key_cmp key entry rows))

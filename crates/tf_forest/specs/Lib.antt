@@ -1,5 +1,6 @@
 pub mod Edits
 pub mod Back
+pub mod Fresh
 pub mod LookUps
 pub mod Held
 pub mod Parts
@@ -10,4 +11,3 @@ pub mod Nest
 pub mod Floors
 pub mod Forest
 pub mod Due
-pub mod Every

@@ -1,5 +1,5 @@
 -- Rows as lists of one kind of value: what each has in its mutable table and in its sealed ones, and changes of them.
-use Rattle.std.specs.Prelude.{◌≡◌, ◌≢◌, ◌==◌, ℕ, List, [], ◌∷◌, map, Option, Bool, if◌then◌else◌}
+use Rattle.std.specs.Prelude.{◌≡◌, ◌≢◌, ℕ, List, [], ◌∷◌, map, Option}
 use Rattle.std.specs.Option.{IsSome, option_map}
 use Rattle.tf_btree.specs.Rows.{with_row}
 use Rattle.tf_table.specs.declared.key.Key.{Key}
@@ -73,14 +73,6 @@ Parts = Row → Part
 -- the entries of mutable tables, by the names of their rows
 abbrev pub Entries : Type 0
 Entries = Row → List (Key × Option Value)
-
--- one mutable table alone, whose row stands at this place
-abbrev pub alone : ℕ → List (Key × Option Value) → Entries
-alone place rows r = if place_of r == place then rows else []
-
--- mutable tables of two sets, where the first says which are its own
-abbrev pub joined : (Row → Bool) → Entries → Entries → Entries
-joined first own others r = if first r then own r else others r
 
 -- what the sealed tables of a manifest have for a row, newest first
 abbrev pub sealed_in : View → Row → List (List (Key × Option Value))

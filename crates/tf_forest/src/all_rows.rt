@@ -1,14 +1,14 @@
-//! Mutable tables of all rows.
+//! Sets that have all rows.
 ghost use Rattle.std.specs.Prelude.{IsTrue};
 ghost use Rattle.tf_forest.specs.Nest.{IsTree, fits_row};
 ghost use Rattle.tf_manifest.specs.declared.row.Row.{Row};
 ghost use Rattle.tf_manifest.specs.declared.value.Value.{Value};
 
-use crate::MutableRows;
+use crate::RowSet;
 
-/// The mutable tables of all 21 rows, each of its own kind of value. Those of account_ids, account_sums, transfer_ids,
+/// All 21 rows, each of its own kind of value. The mutable tables of account_ids, account_sums, transfer_ids,
 /// pending_status and expiry take an entry for any key.
-pub trait AllRows: MutableRows {
+pub trait AllRows: RowSet {
     /// No row is missing.
     ghost has_all: { (row : Row) → IsTrue (Self.has_row row) };
 

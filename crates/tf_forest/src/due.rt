@@ -10,7 +10,7 @@ ghost use Rattle.tf_manifest.specs.declared.row.Row.{Row};
 use crate::look_ups::transfer_at;
 use crate::{AllRows, Forest, RowSet, rows_tell_what_is_due};
 use std::alloc::Allocator;
-use tf_manifest::{Naming, Row, Value};
+use tf_manifest::{Row, Value};
 use tf_records::Transfer;
 use tf_table::{Key, content_is_a_map};
 
@@ -66,7 +66,7 @@ fn due_count<S: RowSet>(rows: &S, floor: Key, at: u64, most: u32) -> u32
     most
 }
 
-impl<'r, F: AllRows + Drop, A: Allocator + Copy, N: Naming> Forest<'r, F, A, N> {
+impl<S: AllRows + Drop, A: Allocator + Copy> Forest<S, A> {
     /// The next pending transfer to expire: of those that are open, have a timeout and whose time is over at this moment,
     /// the one that expires first; of equal ones, the one stored first.
     ///

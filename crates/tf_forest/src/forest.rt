@@ -2,26 +2,24 @@
 ghost use Rattle.std.specs.Prelude.{◌≡◌, ◌≤◌, [], length, take, OnErr};
 ghost use Rattle.tf_forest.specs.Floors.{IsFloor};
 ghost use Rattle.tf_forest.specs.Forest.{ShowTheirJournal, journal_in};
-ghost use Rattle.tf_forest.specs.Parts.{parts_of};
+ghost use Rattle.tf_forest.specs.Nest.{AreEmpty};
 ghost use Rattle.tf_journal.specs.declared.entry.Entry.{Entry};
 ghost use Rattle.tf_journal.specs.Journal.{IsUpTo, is_failed};
 ghost use Rattle.tf_journal.specs.Ledger.{CanGrow, IsAddition};
 ghost use Rattle.tf_journal.specs.Lookup.{id_use_of, shown_with_id, transfer_with_id};
 ghost use Rattle.tf_journal.specs.Status.{status_at};
-ghost use Rattle.tf_manifest.specs.Registries.{AreShelves};
-ghost use Rattle.tf_manifest.specs.View.{no_tables};
 
 use crate::floors::Floors;
 use crate::note::{Note, make_room, note_down, undo_to};
 use crate::{
-    AllRows, EmptyRows, RowSet, Rows, account, add_entry, entries_leave_sums_in_range, id_use,
-    look_up, next_entry_can_be_added, rows_answer_look_ups, rows_spell_the_journal_they_show,
-    status, transfer,
+    AllRows, account, add_entry, entries_leave_sums_in_range, id_use, look_up,
+    next_entry_can_be_added, rows_answer_look_ups, rows_spell_the_journal_they_show, status,
+    transfer,
 };
 use std::alloc::Allocator;
 use std::marker::Model;
 use tf_journal::{Entry, IdUse, Mark, Status, ids_are_unique};
-use tf_manifest::{Naming, Registries, Row};
+use tf_manifest::Row;
 use tf_records::{Account, Refusal, TIMESTAMP_MAX, Transfer};
 use tf_table::Key;
 
@@ -30,8 +28,8 @@ use tf_table::Key;
 /// Its journal is the one that the rows spell. Contracts see the journal, the clock and the kept length. A look-up takes a
 /// few look-ups in rows, whatever the journal's length.
 #[derive(Drop)]
-pub struct Forest<'r, F: AllRows + Drop, A: Allocator + Copy, N: Naming> {
-    pub(crate) rows: Rows<'r, F, A, N>,
+pub struct Forest<S: AllRows + Drop, A: Allocator + Copy> {
+    pub(crate) rows: S,
     /// The oldest first.
     pub(crate) notes: Vec<Note<A>, A>,
     pub(crate) clock: u64,
@@ -40,35 +38,32 @@ pub struct Forest<'r, F: AllRows + Drop, A: Allocator + Copy, N: Naming> {
     pub(crate) alloc: A,
 }
 
-impl<'r, F: AllRows + Drop, A: Allocator + Copy, N: Naming> Model for Forest<'r, F, A, N> {
+impl<S: AllRows + Drop, A: Allocator + Copy> Model for Forest<S, A> {
     ghost use Rattle.tf_forest.specs.Forest.{View};
 
     ghost Value = { View };
 
     ghost use Rattle.tf_forest.specs.Forest.{IsForest, journal_in};
-    ghost use Rattle.tf_forest.specs.Parts.{parts_of};
 
-    ghost view = { λ f. record { journal = journal_in (parts_of (F.entries f.rows.fresh) f.rows.manifest); sealed = f.rows.manifest; clock = f.clock; kept = f.kept } };
+    ghost view = { λ f. record { journal = journal_in (S.parts f.rows); sealed = S.sealed f.rows; clock = f.clock; kept = f.kept } };
 
-    ghost invariant = { λ f. IsForest F.has_row F.fits F.takes_any (parts_of (F.entries f.rows.fresh) f.rows.manifest) f.notes.items f.kept f.floors };
+    ghost invariant = { λ f. IsForest S.has_row S.fits S.takes_any (S.parts f.rows) f.notes.items f.kept f.floors };
 }
 
-impl<'r, F: AllRows + Drop, A: Allocator + Copy, N: Naming> Forest<'r, F, A, N> {
-    /// The empty ledger, at clock 0. It takes no memory.
+impl<S: AllRows + Drop, A: Allocator + Copy> Forest<S, A> {
+    /// The empty ledger, at clock 0, over rows that have nothing. It takes no memory.
     ///
-    /// Its rows grow on `alloc`, and their sealed tables stand in these registries.
-    pub fn new(alloc: A, registries: &'r Registries<A>) -> Forest<'r, F, A, N>
-    where
-        F: EmptyRows<A>,
-        requires { AreShelves N.shelf registries.now }
+    /// Its notes grow on `alloc`.
+    pub fn new(alloc: A, rows: S) -> Forest<S, A>
+        requires { AreEmpty (S.parts rows) }
         ensures journal { result.journal ≡ [] }
         ensures clock { result.clock ≡ 0 }
         ensures kept { result.kept ≡ 0 }
-        ensures sealed { result.sealed ≡ no_tables registries.now.limit }
+        ensures sealed { result.sealed ≡ S.sealed rows }
     {
         rows_spell_the_journal_they_show();
         Forest {
-            rows: Rows::new(F::empty(alloc), registries),
+            rows,
             notes: Vec::new(alloc),
             clock: 0,
             kept: 0,
@@ -79,11 +74,11 @@ impl<'r, F: AllRows + Drop, A: Allocator + Copy, N: Naming> Forest<'r, F, A, N> 
 
     /// The rows, which show the journal.
     #[inline]
-    pub fn rows(&self) -> &Rows<'r, F, A, N>
-        ensures journal { journal_in (parts_of (F.entries result.now.fresh) result.now.manifest) ≡ self.now.journal }
-        ensures shows { ShowTheirJournal (parts_of (F.entries result.now.fresh) result.now.manifest) }
+    pub fn rows(&self) -> &S
+        ensures journal { journal_in (S.parts result.now) ≡ self.now.journal }
+        ensures shows { ShowTheirJournal (S.parts result.now) }
         ensures kept { self.now.kept ≤ length self.now.journal }
-        ensures sealed { result.now.manifest ≡ self.now.sealed }
+        ensures sealed { S.sealed result.now ≡ self.now.sealed }
     {
         &self.rows
     }

@@ -19,6 +19,7 @@ mod forest;
 mod found;
 mod held;
 mod laws;
+mod ledger;
 mod look_ups;
 mod mutable_rows;
 mod mutable_tables;
@@ -43,10 +44,8 @@ pub use laws::{
     rows_show_the_next_entry, rows_tell_what_is_due,
 };
 pub use look_ups::{account, id_use, party, pending, status, transfer};
-pub use mutable_rows::{Both, MutableRows, One};
-pub use mutable_tables::{
-    AccountTables, IndexOf, LogOf, MutableTables, PendingTables, TransferTables, TreeOf,
-};
+pub use mutable_rows::MutableRows;
+pub use mutable_tables::MutableTables;
 pub use row_set::RowSet;
 pub use rows::Rows;
 pub use spelled::rows_spell_the_journal_they_show;

@@ -1,14 +1,13 @@
 //! Mutable tables in front of the sealed ones of a manifest.
-ghost use Rattle.std.specs.Prelude.{◌≡◌, [], ◌∷◌, IsTrue};
+ghost use Rattle.std.specs.Prelude.{◌≡◌, ◌∷◌, refl};
 ghost use Rattle.tf_table.specs.Content.{entry_of};
 ghost use Rattle.tf_table.specs.First.{IsFirstAbove};
-ghost use Rattle.tf_manifest.specs.declared.row.Row.{Row};
 ghost use Rattle.tf_manifest.specs.Registries.{AreShelves};
 ghost use Rattle.tf_manifest.specs.View.{no_tables};
-ghost use Rattle.tf_forest.specs.Nest.{AreEmpty};
+ghost use Rattle.tf_forest.specs.Nest.{AreEmpty, IsTree, fits_row, has_each};
 ghost use Rattle.tf_forest.specs.Parts.{parts_of, sealed_in};
 
-use crate::{Before, MutableRows, RowSet};
+use crate::{AllRows, Before, EmptyRows, MutableRows, RowSet};
 use std::alloc::Allocator;
 use tf_manifest::{Manifest, Naming, Registries, Row, Value};
 use tf_records::Refusal;
@@ -22,15 +21,16 @@ pub struct Rows<'r, F: MutableRows + Drop, A: Allocator, N: Naming> {
 }
 
 impl<'r, F: MutableRows + Drop, A: Allocator, N: Naming> Rows<'r, F, A, N> {
-    /// Mutable tables without entries, and no sealed ones. It takes no memory.
-    pub fn new(fresh: F, registries: &'r Registries<A>) -> Rows<'r, F, A, N>
-        requires registries { AreShelves N.shelf registries.now }
-        requires empty { (r : Row) → F.entries fresh r ≡ [] }
+    /// Mutable tables without entries, which grow on `alloc`, and no sealed ones. It takes no memory.
+    pub fn new(alloc: A, registries: &'r Registries<A>) -> Rows<'r, F, A, N>
+    where
+        F: EmptyRows<A>,
+        requires { AreShelves N.shelf registries.now }
         ensures empty { AreEmpty (parts_of (F.entries result.fresh) result.manifest) }
         ensures sealed { result.manifest ≡ no_tables registries.now.limit }
     {
         Rows {
-            fresh,
+            fresh: F::empty(alloc),
             manifest: Manifest::new(registries),
         }
     }
@@ -38,7 +38,6 @@ impl<'r, F: MutableRows + Drop, A: Allocator, N: Naming> Rows<'r, F, A, N> {
     /// The first key of a row above a given one that has an entry, a value or a tombstone, in the mutable table or a
     /// sealed one.
     fn first_above(&self, row: Row, key: &Key) -> Option<Key>
-        requires { IsTrue (F.has_row row) }
         ensures { IsFirstAbove key.now (λ found. entry_of found (F.entries self.now.fresh row ∷ sealed_in self.now.manifest row)) result }
     {
         Key::lesser(
@@ -49,18 +48,18 @@ impl<'r, F: MutableRows + Drop, A: Allocator, N: Naming> Rows<'r, F, A, N> {
 }
 
 impl<'r, F: MutableRows + Drop, A: Allocator, N: Naming> RowSet for Rows<'r, F, A, N> {
-    ghost has_row = { λ r. F.has_row r };
+    ghost has_row = { has_each };
 
-    ghost fits = { λ r v. F.fits r v };
+    ghost fits = { fits_row };
 
     ghost parts = { λ rows. parts_of (F.entries rows.fresh) rows.manifest };
 
     ghost sealed = { λ rows. rows.manifest };
 
-    ghost takes_any = { λ r. F.takes_any r };
+    ghost takes_any = { IsTree };
 
-    fn has_row(row: Row) -> bool {
-        F::has_row(row)
+    fn has_row(_row: Row) -> bool {
+        true
     }
 
     fn find(&self, row: Row, key: &Key) -> Option<Value> {
@@ -85,4 +84,12 @@ impl<'r, F: MutableRows + Drop, A: Allocator, N: Naming> RowSet for Rows<'r, F, 
     fn take_back(&mut self, row: Row, key: &Key, before: Before) {
         self.fresh.take_back(row, key, before);
     }
+}
+
+impl<'r, F: MutableRows + Drop, A: Allocator, N: Naming> AllRows for Rows<'r, F, A, N> {
+    ghost has_all = { λ row. refl };
+
+    ghost fits_kind = { λ row value fits. fits };
+
+    ghost takes_trees = { λ row tree. tree };
 }

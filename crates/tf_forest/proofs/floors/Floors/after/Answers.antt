@@ -1,4 +1,4 @@
-use Rattle.std.proofs.Common.{◌≡◌, ◌∙◌, [], ◌∷◌, ◌++◌, sym, ap, subst}
+use Rattle.std.proofs.Common.{◌∙◌, [], ◌∷◌, ◌++◌, sym, ap, subst}
 use Rattle.tf_forest.specs.declared.floors.Floors.{Floors}
 use Rattle.tf_forest.specs.declared.found.Found.{Found}
 use Rattle.tf_forest.specs.Floors.{HaveFloors, floors_after}

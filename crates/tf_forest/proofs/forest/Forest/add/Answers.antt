@@ -1,7 +1,7 @@
 use Rattle.std.proofs.Common.{◌≡◌, ◌∙◌, List, [], ◌∷◌, ◌++◌, sym, ap, subst}
 use Rattle.tf_journal.specs.declared.entry.Entry.{Entry}
 use Rattle.tf_journal.specs.Ledger.{CanGrow}
-use Rattle.tf_forest.specs.Parts.{Parts, parts_of}
+use Rattle.tf_forest.specs.Parts.{Parts}
 use Rattle.tf_forest.specs.declared.found.Found.{Found}
 use Rattle.tf_forest.specs.declared.change.Step.{Step}
 use Rattle.tf_forest.specs.Changes.{CanChangeAll, all_changed}
@@ -17,25 +17,25 @@ use Rattle.tf_forest.proofs.forest.Forest.add.Goals as goal
 
 pub add_entry-requires-clause-can : goal.add_entry-requires-clause-can
 add_entry-requires-clause-can g c =
-    let old : Parts = parts_of (g.F.MutableRows.entries c.self.inside.rows.fresh) c.self.inside.rows.manifest in
+    let old : Parts = g.S.RowSet.parts c.self.inside.rows in
     let e : Entry = c.args.entry.now in
     let same : journal_in old ≡ c.args.self.now.journal = ap (λ (v : View). v.journal) c.self.view_is in
     let grows : CanGrow (journal_in old) e = subst (λ (j : List Entry). CanGrow j e) (sym same) c.requires in
     let is : c.look_up-found.result ≡ found_for (journal_in old) e = c.look_up-found.ensures.found (journal_in old) c.self.invariant.shows.sound c.self.invariant.shows.shows in
-    subst (λ (f : Found). CanChangeAll g.F.MutableRows.has_row g.F.MutableRows.fits g.F.MutableRows.takes_any (changes_by f e) old) (sym is)
-    (can_any g.F.MutableRows.has_row g.F.MutableRows.fits g.F.MutableRows.takes_any g.met.F.AllRows.has_all g.met.F.AllRows.fits_kind g.met.F.AllRows.takes_trees
+    subst (λ (f : Found). CanChangeAll g.S.RowSet.has_row g.S.RowSet.fits g.S.RowSet.takes_any (changes_by f e) old) (sym is)
+    (can_any g.S.RowSet.has_row g.S.RowSet.fits g.S.RowSet.takes_any g.met.S.AllRows.has_all g.met.S.AllRows.fits_kind g.met.S.AllRows.takes_trees
     (changes (journal_in old) e) old
     (c.next_entry_can_be_added.ensures.can old (journal_in old) e c.self.invariant.shows.sound grows c.self.invariant.shows.shows c.self.invariant.shows.values))
 
 pub invariant_of-self-2 : goal.invariant_of-self-2
 invariant_of-self-2 g c =
-    let old : Parts = parts_of (g.F.MutableRows.entries c.self.inside.rows.fresh) c.self.inside.rows.manifest in
-    let new : Parts = parts_of (g.F.MutableRows.entries c.add_entry.new.rows.fresh) c.add_entry.new.rows.manifest in
+    let old : Parts = g.S.RowSet.parts c.self.inside.rows in
+    let new : Parts = g.S.RowSet.parts c.add_entry.new.rows in
     let e : Entry = c.args.entry.now in
     let same : journal_in old ≡ c.args.self.now.journal = ap (λ (v : View). v.journal) c.self.view_is in
     let grows : CanGrow (journal_in old) e = subst (λ (j : List Entry). CanGrow j e) (sym same) c.requires in
     let is : c.look_up-found.result ≡ found_for (journal_in old) e = c.look_up-found.ensures.found (journal_in old) c.self.invariant.shows.sound c.self.invariant.shows.shows in
-    let grown : IsGrown g.F.MutableRows.has_row g.F.MutableRows.fits g.F.MutableRows.takes_any old new e c.in-Ok.steps.items = record {
+    let grown : IsGrown g.S.RowSet.has_row g.S.RowSet.fits g.S.RowSet.takes_any old new e c.in-Ok.steps.items = record {
       shows = c.in-Ok.ensures.shows (journal_in old) c.self.invariant.shows.sound grows is c.self.invariant.shows.shows;
       values = subst LogsHaveValues (sym (c.in-Ok.ensures.rows ∙ ap (λ (f : Found). all_changed (changes_by f e) old) is)) (c.next_entry_can_be_added.ensures.values old (journal_in old) e c.self.invariant.shows.values);
       can = c.in-Ok.ensures.steps;
@@ -45,26 +45,26 @@ invariant_of-self-2 g c =
     c.note_down.ensures
     ∙ ap (λ (ns : List (List Step)). ns ++ c.new.result ∷ []) c.make_room.ensures.items
     ∙ ap (λ (n : List Step). c.self.inside.notes.items ++ n ∷ []) c.new.ensures in
-    subst (λ (ns : List (List Step)). IsForest g.F.MutableRows.has_row g.F.MutableRows.fits g.F.MutableRows.takes_any new ns c.self.inside.kept c.after-self-inside.result) (sym noted)
-    (grown_forest g.F.MutableRows.has_row g.F.MutableRows.fits g.F.MutableRows.takes_any c.rows_spell_the_journal_they_show.ensures old new c.self.inside.notes.items c.in-Ok.steps.items c.self.inside.kept c.self.inside.floors e c.self.invariant grows grown
+    subst (λ (ns : List (List Step)). IsForest g.S.RowSet.has_row g.S.RowSet.fits g.S.RowSet.takes_any new ns c.self.inside.kept c.after-self-inside.result) (sym noted)
+    (grown_forest g.S.RowSet.has_row g.S.RowSet.fits g.S.RowSet.takes_any c.rows_spell_the_journal_they_show.ensures old new c.self.inside.notes.items c.in-Ok.steps.items c.self.inside.kept c.self.inside.floors e c.self.invariant grows grown
     c.after-self-inside.result (c.after-self-inside.ensures.holds (journal_in old) c.self.inside.kept c.self.invariant.shows.sound grows is c.self.invariant.floors))
 
 pub returns-clause-addition : goal.returns-clause-addition
 returns-clause-addition g c =
-    let old : Parts = parts_of (g.F.MutableRows.entries c.self.inside.rows.fresh) c.self.inside.rows.manifest in
-    let new : Parts = parts_of (g.F.MutableRows.entries c.add_entry.new.rows.fresh) c.add_entry.new.rows.manifest in
+    let old : Parts = g.S.RowSet.parts c.self.inside.rows in
+    let new : Parts = g.S.RowSet.parts c.add_entry.new.rows in
     let e : Entry = c.args.entry.now in
     let same : journal_in old ≡ c.args.self.now.journal = ap (λ (v : View). v.journal) c.self.view_is in
     let grows : CanGrow (journal_in old) e = subst (λ (j : List Entry). CanGrow j e) (sym same) c.requires in
     let is : c.look_up-found.result ≡ found_for (journal_in old) e = c.look_up-found.ensures.found (journal_in old) c.self.invariant.shows.sound c.self.invariant.shows.shows in
-    let grown : IsGrown g.F.MutableRows.has_row g.F.MutableRows.fits g.F.MutableRows.takes_any old new e c.in-Ok.steps.items = record {
+    let grown : IsGrown g.S.RowSet.has_row g.S.RowSet.fits g.S.RowSet.takes_any old new e c.in-Ok.steps.items = record {
       shows = c.in-Ok.ensures.shows (journal_in old) c.self.invariant.shows.sound grows is c.self.invariant.shows.shows;
       values = subst LogsHaveValues (sym (c.in-Ok.ensures.rows ∙ ap (λ (f : Found). all_changed (changes_by f e) old) is)) (c.next_entry_can_be_added.ensures.values old (journal_in old) e c.self.invariant.shows.values);
       can = c.in-Ok.ensures.steps;
       back = c.in-Ok.ensures.back;
     } in
     record {
-      ok = grown_journal g.F.MutableRows.has_row g.F.MutableRows.fits g.F.MutableRows.takes_any c.rows_spell_the_journal_they_show.ensures old new c.self.inside.notes.items c.in-Ok.steps.items c.self.inside.kept c.self.inside.floors e c.self.invariant grows grown
+      ok = grown_journal g.S.RowSet.has_row g.S.RowSet.fits g.S.RowSet.takes_any c.rows_spell_the_journal_they_show.ensures old new c.self.inside.notes.items c.in-Ok.steps.items c.self.inside.kept c.self.inside.floors e c.self.invariant grows grown
           ∙ ap (λ (j : List Entry). j ++ e ∷ []) same;
       err = tt;
       refusal = tt;
@@ -74,7 +74,7 @@ returns-clause-addition g c =
 
 pub add_entry-requires-clause-range : goal.add_entry-requires-clause-range
 add_entry-requires-clause-range g c =
-    let old : Parts = parts_of (g.F.MutableRows.entries c.self.inside.rows.fresh) c.self.inside.rows.manifest in
+    let old : Parts = g.S.RowSet.parts c.self.inside.rows in
     let e : Entry = c.args.entry.now in
     let same : journal_in old ≡ c.args.self.now.journal = ap (λ (v : View). v.journal) c.self.view_is in
     let grows : CanGrow (journal_in old) e = subst (λ (j : List Entry). CanGrow j e) (sym same) c.requires in
@@ -93,6 +93,6 @@ returns-in-Err-clause-addition g c = record {
 pub returns-in-Err-clause-err : goal.returns-in-Err-clause-err
 returns-in-Err-clause-err g c =
     let seen : Parts → Tables → View = λ rows tables. record { journal = journal_in rows; sealed = tables; clock = c.self.inside.clock; kept = c.self.inside.kept } in
-    ap (λ (rows : Parts). seen rows c.add_entry.new.rows.manifest) c.in-Err.ensures.err
-    ∙ ap (λ (tables : Tables). seen (parts_of (g.F.MutableRows.entries c.self.inside.rows.fresh) c.self.inside.rows.manifest) tables) c.in-Err.ensures.sealed
+    ap (λ (rows : Parts). seen rows (g.S.RowSet.sealed c.add_entry.new.rows)) c.in-Err.ensures.err
+    ∙ ap (λ (tables : Tables). seen (g.S.RowSet.parts c.self.inside.rows) tables) c.in-Err.ensures.sealed
     ∙ c.self.view_is

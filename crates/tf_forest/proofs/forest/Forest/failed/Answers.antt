@@ -10,7 +10,7 @@ use Rattle.tf_journal.specs.Laws.{HasUniqueIds}
 use Rattle.tf_journal.specs.Lookup.{id_use_of, transfer_with_id, unstored_use}
 use Rattle.tf_forest.specs.Forest.{journal_in}
 use Rattle.tf_forest.specs.Next.{content_in}
-use Rattle.tf_forest.specs.Parts.{Parts, parts_of}
+use Rattle.tf_forest.specs.Parts.{Parts}
 use Rattle.tf_forest.proofs.forest.Forest.failed.Goals as goal
 
 abbrev says_failed : IdUse → Bool
@@ -29,7 +29,7 @@ told journal id unique = use_told (transfer_with_id journal id) (is_failed journ
 
 pub returns-in-Failed : goal.returns-in-Failed
 returns-in-Failed g c =
-    let rows : Parts = (parts_of (g.F.MutableRows.entries c.rows.result.now.fresh) c.rows.result.now.manifest) in
+    let rows : Parts = (g.S.RowSet.parts c.rows.result.now) in
     let shows = c.rows.ensures.shows in
     ap says_failed (sym c.in-Failed.is ∙ c.id_use.ensures ∙ c.rows_answer_look_ups.ensures.uses (content_in rows) (journal_in rows) shows.sound shows.shows c.args.id)
     ∙ told (journal_in rows) c.args.id (c.ids_are_unique.ensures (journal_in rows) shows.sound)
@@ -37,7 +37,7 @@ returns-in-Failed g c =
 
 pub returns-in-Free : goal.returns-in-Free
 returns-in-Free g c =
-    let rows : Parts = (parts_of (g.F.MutableRows.entries c.rows.result.now.fresh) c.rows.result.now.manifest) in
+    let rows : Parts = (g.S.RowSet.parts c.rows.result.now) in
     let shows = c.rows.ensures.shows in
     let other : says_failed c.id_use.result ≡ false = elim c.in-Free.is [
       | inl free ↦ ap says_failed free

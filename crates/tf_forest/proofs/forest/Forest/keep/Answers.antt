@@ -3,18 +3,18 @@ use Rattle.tf_manifest.specs.declared.row.Row.TheVariants as row
 use Rattle.tf_forest.specs.Floors.{HaveFloors}
 use Rattle.tf_forest.specs.Forest.{journal_in}
 use Rattle.tf_forest.specs.Next.{content_in}
-use Rattle.tf_forest.specs.Parts.{Parts, parts_of}
+use Rattle.tf_forest.specs.Parts.{Parts}
 use Rattle.tf_forest.proofs.Notes.{noted_length}
 use Rattle.tf_forest.proofs.forest.Forest.keep.Goals as goal
 
 pub overflow_add-self : goal.overflow_add-self
 overflow_add-self g c =
-    let bound = noted_length g.F.MutableRows.has_row g.F.MutableRows.fits g.F.MutableRows.takes_any _ c.self.inside.notes.items c.self.inside.kept c.len.result c.self.inside.floors c.self.invariant (search rules) in
+    let bound = noted_length g.S.RowSet.has_row g.S.RowSet.fits g.S.RowSet.takes_any _ c.self.inside.notes.items c.self.inside.kept c.len.result c.self.inside.floors c.self.invariant (search rules) in
     omega (arith, bound)
 
 pub invariant_of-self : goal.invariant_of-self
 invariant_of-self g c =
-    let rows : Parts = (parts_of (g.F.MutableRows.entries c.self.inside.rows.fresh) c.self.inside.rows.manifest) in
+    let rows : Parts = (g.S.RowSet.parts c.self.inside.rows) in
     let all : length (journal_in rows) ≡ c.self.inside.kept + c.len.result = omega (arith, c.self.invariant.count) in
     record {
       shows = c.self.invariant.shows;
@@ -25,4 +25,4 @@ invariant_of-self g c =
     }
 
 pub first_from-first-requires : goal.first_from-first-requires
-first_from-first-requires g c = (search rules, g.met.F.AllRows.has_all row.Expiry)
+first_from-first-requires g c = g.met.S.AllRows.has_all row.Expiry

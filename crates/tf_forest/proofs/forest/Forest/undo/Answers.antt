@@ -2,14 +2,13 @@ use Rattle.std.proofs.Common.{◌≡◌, ◌-◌, List, length, take, ap, subst,
 use Rattle.tf_journal.specs.declared.entry.Entry.{Entry}
 use Rattle.tf_forest.specs.Floors.{HaveFloors}
 use Rattle.tf_forest.specs.Forest.{View, journal_in}
-use Rattle.tf_forest.specs.Parts.{parts_of}
 use Rattle.tf_forest.proofs.Notes.{cut_is_taken, cut_length}
 use Rattle.tf_forest.proofs.forest.Forest.undo.Goals as goal
 
 pub invariant_of-self : goal.invariant_of-self
 invariant_of-self g c =
-    let old : List Entry = journal_in (parts_of (g.F.MutableRows.entries c.self.inside.rows.fresh) c.self.inside.rows.manifest) in
-    let new : List Entry = journal_in (parts_of (g.F.MutableRows.entries c.undo_to.new.rows.fresh) c.undo_to.new.rows.manifest) in
+    let old : List Entry = journal_in (g.S.RowSet.parts c.self.inside.rows) in
+    let new : List Entry = journal_in (g.S.RowSet.parts c.undo_to.new.rows) in
     let n = c.args.to.length in
     let kept = c.self.inside.kept in
     let count = c.self.invariant.count in

@@ -4,10 +4,11 @@ use Rattle.tf_manifest.specs.Install.{OnStale}
 use Rattle.tf_manifest.specs.Jobs.{StandsIn}
 use Rattle.tf_manifest.specs.View.{View as Tables, content_in}
 use Rattle.tf_forest.specs.Forest.{View, journal_in}
+use Rattle.tf_forest.specs.Nest.{IsTree, fits_row, has_each}
 use Rattle.tf_forest.specs.Parts.{Parts, parts_of}
 use Rattle.tf_forest.proofs.Notes.{same_forest, same_journal}
 use Rattle.tf_forest.proofs.Sealed.{same_in_front}
-use Rattle.tf_forest.proofs.forest.Forest.install.Goals as goal
+use Rattle.tf_forest.proofs.compaction.Forest+Rows+F+A+N+A.install.Goals as goal
 
 pub invariant_of-self : goal.invariant_of-self
 invariant_of-self g c =
@@ -16,7 +17,7 @@ invariant_of-self g c =
     let new : Parts = parts_of fresh c.install.new.self in
     let all : c.self.inside.kept ≡ length (journal_in old) =
     ap (λ (v : View). v.kept) c.self.view_is ∙ c.requires ∙ ap (λ (v : View). length v.journal) (sym c.self.view_is) in
-    same_forest g.F.MutableRows.has_row g.F.MutableRows.fits g.F.MutableRows.takes_any c.rows_spell_the_journal_they_show.ensures old new c.self.inside.notes.items c.self.inside.kept c.self.inside.floors
+    same_forest has_each fits_row IsTree c.rows_spell_the_journal_they_show.ensures old new c.self.inside.notes.items c.self.inside.kept c.self.inside.floors
     (same_in_front fresh c.self.inside.rows.manifest c.install.new.self c.install.ensures.content) c.self.invariant.shows.values c.self.invariant all
 
 pub returns-clause-journal : goal.returns-clause-journal

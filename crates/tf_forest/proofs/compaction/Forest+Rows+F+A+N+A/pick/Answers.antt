@@ -4,7 +4,7 @@ use Rattle.tf_manifest.specs.Kinds.{kind_of}
 use Rattle.tf_manifest.specs.Run.{count_at}
 use Rattle.tf_manifest.specs.View.{View as Tables, references_in, tables_by}
 use Rattle.tf_forest.specs.Forest.{View}
-use Rattle.tf_forest.proofs.forest.Forest.pick.Goals as goal
+use Rattle.tf_forest.proofs.compaction.Forest+Rows+F+A+N+A.pick.Goals as goal
 
 pub returns-clause-none : goal.returns-clause-none
 returns-clause-none g c =
