@@ -8,24 +8,11 @@ mod table;
 mod tree;
 
 use keys::{Payload, Words};
+use plain::{measure, Measured, Run};
+use row::Wanted;
 use std::env;
 use std::process::ExitCode;
-use std::time::Instant;
-use row::Wanted;
 use table::Keys;
-
-/// How often a workload does what it does, and the seed of its keys.
-#[derive(Clone, Copy)]
-pub struct Run {
-    pub count: u64,
-    pub seed: u64,
-}
-
-/// What a workload gave, and how long it took.
-pub struct Measured {
-    pub checksum: u64,
-    pub nanoseconds: u128,
-}
 
 fn run<V: Payload>(workload: &str, run: Run) -> Option<Measured> {
     match workload {
@@ -80,16 +67,6 @@ fn run<V: Payload>(workload: &str, run: Run) -> Option<Measured> {
         "scan_union_back" => Some(scan::union::<true>(run)),
         "scan_intersection_back" => Some(scan::intersection::<true>(run)),
         _ => None,
-    }
-}
-
-/// Times the work, which gives a checksum.
-pub fn measure(work: impl FnOnce() -> u64) -> Measured {
-    let start = Instant::now();
-    let checksum = work();
-    Measured {
-        checksum,
-        nanoseconds: start.elapsed().as_nanos(),
     }
 }
 

@@ -98,7 +98,11 @@ impl Table {
     fn of(numbers: impl Iterator<Item = u64>, level: u32) -> Table {
         let keys: Vec<Key> = numbers.map(spread_key).collect();
         let values = keys.iter().map(|key| key.timestamp).collect();
-        Table { keys, values, level }
+        Table {
+            keys,
+            values,
+            level,
+        }
     }
 
     fn find(&self, key: &Key) -> Option<&u64> {

@@ -157,7 +157,7 @@ fn fill<V: Payload>(log: &mut Vec<(Key, Option<V>)>, values: &[u64]) {
 
 /// The rows of a log as a table.
 fn sealed_log<V: Payload>(log: &mut [(Key, Option<V>)]) -> Table<V> {
-    log.sort_by(|row, other| row.0.cmp(&other.0));
+    log.sort_by_key(|row| row.0);
     let mut table = Table::with_room(log.len());
     for (key, entry) in log {
         table.push(*key, *entry);
@@ -201,7 +201,7 @@ fn merged_tables<V: Payload>(tables: &[&Table<V>], bottom: bool) -> Table<V> {
         let mut least: Option<(usize, Key)> = None;
         for (number, table) in tables.iter().enumerate() {
             if let Some(key) = table.keys.get(places[number]) {
-                if least.map_or(true, |(_, other)| key.cmp(&other) == Ordering::Less) {
+                if least.is_none_or(|(_, other)| key.cmp(&other) == Ordering::Less) {
                     least = Some((number, *key));
                 }
             }

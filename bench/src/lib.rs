@@ -1,0 +1,38 @@
+//! The ledger written by hand in plain Rust, and its workloads.
+//!
+//! `cargo run --release --bin ledger` times them. `cargo test` shows that the ledger answers as the proved one does: it
+//! prints what the repository's worked scripts print, and gives every result where the proved ledger gave it.
+//! `cargo test --release -- --include-ignored` also builds the proved program and compares both on random scripts.
+
+pub mod batches;
+pub mod events;
+pub mod ingest;
+pub mod keys;
+pub mod ledger;
+pub mod pending;
+pub mod queries;
+
+use std::time::Instant;
+
+/// How often a workload does what it does, and the seed of its keys.
+#[derive(Clone, Copy)]
+pub struct Run {
+    pub count: u64,
+    pub seed: u64,
+}
+
+/// What a workload gave, and how long it took.
+pub struct Measured {
+    pub checksum: u64,
+    pub nanoseconds: u128,
+}
+
+/// Times the work, which gives a checksum.
+pub fn measure(work: impl FnOnce() -> u64) -> Measured {
+    let start = Instant::now();
+    let checksum = work();
+    Measured {
+        checksum,
+        nanoseconds: start.elapsed().as_nanos(),
+    }
+}
