@@ -12,3 +12,4 @@ pub mod Whole
 pub mod View
 pub mod Registries
 pub mod Jobs
+pub mod Fields

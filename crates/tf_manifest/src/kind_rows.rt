@@ -148,6 +148,8 @@ impl<'r, V: RowValue, A: Allocator + Clone, N: Naming, const COUNT: usize> KindR
     ) -> Result<TableRef<'r, V, A, N>, Body<V, A>>
         requires { pushes.old.count < pushes.old.limit }
         ensures pushed { IfOk result (λ t. (shown_of t).table ≡ body) }
+        // The blank reference alone has the number 0.
+        ensures numbered { IfOk result (λ t. 0 < (shown_of t).number) }
         ensures counted { OnOk result (pushes.new ≡ one_more pushes.old) }
         ensures back { IfErr result (λ b. b ≡ body) }
         ensures err { OnErr result (pushes.new ≡ pushes.old) }

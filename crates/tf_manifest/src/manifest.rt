@@ -45,29 +45,11 @@ impl<'r, A: Allocator, N: Naming> Model for Manifest<'r, A, N> {
 
     ghost Value = { View };
 
-    ghost view = { λ m. record {
-      stamps = m.stamps;
-      accounts = m.accounts;
-      transfers = m.transfers;
-      ids = m.ids;
-      units = m.units;
-      states = m.states;
-      sums = m.sums;
-      statuses = m.statuses;
-      pushed = m.pushes;
-    } };
+    ghost use Rattle.tf_manifest.specs.Fields.{view_of};
 
-    ghost invariant = { λ m. IsLight record {
-      stamps = m.stamps;
-      accounts = m.accounts;
-      transfers = m.transfers;
-      ids = m.ids;
-      units = m.units;
-      states = m.states;
-      sums = m.sums;
-      statuses = m.statuses;
-      pushed = m.pushes;
-    } };
+    ghost view = { view_of };
+
+    ghost invariant = { λ m. IsLight (view_of m) };
 }
 
 impl<'r, A: Allocator, N: Naming> Manifest<'r, A, N> {

@@ -1,5 +1,5 @@
 //! What a push leaves in the registry, and references to it.
-ghost use Rattle.std.specs.Prelude.{◌≡◌, ◌+◌};
+ghost use Rattle.std.specs.Prelude.{◌≡◌, ◌+◌, ⊤};
 ghost use Rattle.std.specs.Option.{ForSome, ForNone};
 ghost use Rattle.boxcar.specs.Table.{Shows};
 ghost use Rattle.tf_manifest.specs.Table.{no_table};
@@ -32,6 +32,10 @@ pub struct TableRef<'r, V: RowValue, A: Allocator, N: Naming> {
 }
 
 impl<V: RowValue, A: Allocator, N: Naming> Clone for TableRef<'_, V, A, N> {
+    ghost is_clone = { λ reference copy. copy ≡ reference };
+
+    ghost is_infallible = { λ _. ⊤ };
+
     fn clone(&self) -> Result<Self, AllocError> {
         Ok(*self)
     }

@@ -1,5 +1,5 @@
 //! A row with its mutable table.
-ghost use Rattle.std.specs.Prelude.{◌≡◌, ◌<◌, [], ◌∷◌, length, Option, IsSome, IfOk, IfErr, OnOk, OnErr};
+ghost use Rattle.std.specs.Prelude.{◌≡◌, ◌<◌, [], ◌∷◌, length, Option, None, IsSome, IfOk, IfErr, OnOk, OnErr};
 ghost use Rattle.std.specs.Option.{option_copied};
 ghost use Rattle.tf_btree.specs.Rows.{IsRising};
 ghost use Rattle.tf_table.specs.Content.{entry_at, entry_of};
@@ -154,6 +154,7 @@ impl<'r, V: RowValue, M: MutableTable<V, A>, A: Allocator + Clone, N: Naming> Wh
         ensures puts { OnOk result (Puts key entry self.old self.new) }
         ensures before { IfOk result (λ before. before ≡ entry_at key self.old.fresh) }
         ensures err { OnErr result (self.new ≡ self.old) }
+        ensures absent { OnErr result (entry_at key self.old.fresh ≡ None) }
         ensures refusal { IfErr result (λ refusal. refusal ≡ Refusal.NoMemory) }
         // No key comes twice.
         ensures rising { IsRising key_cmp self.old.fresh }

@@ -8,7 +8,7 @@ use std::marker::Brand;
 use std::process::Abort;
 use std::sync::Wait;
 use std::test::Fail;
-use tf_manifest::{Naming, Pushes, Registry, TableRef};
+use tf_manifest::{Body, Naming, Pushes, Registry, TableRef};
 
 fn two_jobs_of_one_run<N: Naming>(
     rt: &(impl Abort + Wait),
@@ -67,7 +67,7 @@ fn push_into_full_row<'r, N: Naming>(
     Ok(out)
 }
 
-/// The oldest reference is that of a table of level 1 with two rows, and the newest has the number 66.
+/// The oldest reference is this one, and the newest has the number 66.
 fn assert_oldest_is<N: Naming>(
     rt: &impl Abort,
     row: &TreeRow<'_, Global, N>,
@@ -77,11 +77,13 @@ fn assert_oldest_is<N: Naming>(
     assert_eq!(rt; references.len(), 64);
     assert!(rt; references[63].is_same(out));
     assert_eq!(rt; references[0].number(), 66);
-    let table = out.table();
-    assert_eq!(rt;
-        (table.level(), table.is_oldest(), table.table().len()),
-        (1, true, 2)
-    );
+}
+
+/// The table is a merge of two tables of one row each, and nothing is older.
+fn assert_is_oldest(rt: &impl Abort, table: &Body<u64, Global>) {
+    assert_eq!(rt; table.table().len(), 2);
+    assert_eq!(rt; table.level(), 1);
+    assert!(rt; table.is_oldest());
 }
 
 fn full_row<N: Naming>(
@@ -97,6 +99,7 @@ fn full_row<N: Naming>(
     let out = push_into_full_row(rt, alloc, registry, &mut row)?;
     assert_row(rt, &row, 64, 65);
     assert_oldest_is(rt, &row, out);
+    assert_is_oldest(rt, out.table());
     let mut pushes = Pushes::new(Pushes::MOST);
     for old in [first, second] {
         let stale = install(rt, registry, &mut row, &mut pushes, old);
@@ -123,8 +126,12 @@ fn change_and_take_back<N: Naming>(
     assert_eq!(rt; before, None);
     assert_eq!(rt; row.find(&two).copied(), None);
     assert_eq!(rt; row.fresh().len(), 1);
+    // The key above has a value in a table.
+    assert!(rt; row.first_from(&two) == Some(key(3)));
     row.take_back(&two, before);
     assert_eq!(rt; value_at(row, 2), Some(2));
+    assert!(rt; row.first_from(&two) == Some(two));
+    assert!(rt; row.first_from(&key(5)).is_none());
     Ok(())
 }
 

@@ -20,29 +20,42 @@ use tf_table::{Repeats, seal};
 /// Two rows of timestamps.
 type TwoRows<'r, N> = KindRows<'r, u64, Global, N, 2>;
 
+/// The row has this number, and stands at that place among all.
+fn assert_number(rt: &impl Abort, row: Row, number: u32) {
+    assert_eq!(rt; row.number(), number);
+    assert!(rt; Row::ALL.get(number as usize) == Some(&row), "row {number}");
+}
+
 #[test]
-fn rows_have_their_numbers_and_kinds(rt: HostRuntime) -> Result<(), Fail> {
-    for (row, number) in [
-        (Row::AccountObjects, 0),
-        (Row::TransferIds, 9),
-        (Row::Expiry, 18),
-        (Row::History, 20),
-    ] {
-        assert_eq!(rt; row.number(), number);
-        assert_eq!(rt; Row::ALL[number as usize], row);
-    }
-    assert_eq!(rt;
-        Row::ExpiryEntries.kind(),
-        Kind::Stamp(StampRow::ExpiryEntries)
-    );
-    assert_eq!(rt; StampRow::ExpiryEntries.index() + 1, StampRow::COUNT);
-    assert_eq!(rt; Row::Expiry.kind(), Kind::Unit(UnitRow::Expiry));
-    assert_eq!(rt; UnitRow::Expiry.index() + 1, UnitRow::COUNT);
+fn rows_have_their_numbers(rt: HostRuntime) -> Result<(), Fail> {
+    assert_number(&rt, Row::AccountObjects, 0);
+    assert_number(&rt, Row::TransferIds, 9);
+    assert_number(&rt, Row::Expiry, 18);
+    assert_number(&rt, Row::History, 20);
     Ok(())
 }
 
 #[test]
-fn stored_values_are_those_of_rows(rt: HostRuntime) -> Result<(), Fail> {
+fn rows_have_their_kinds(rt: HostRuntime) -> Result<(), Fail> {
+    let (entries, expiry) = (StampRow::ExpiryEntries, UnitRow::Expiry);
+    assert!(rt; Row::ExpiryEntries.kind() == Kind::Stamp(entries));
+    assert!(rt; Row::Expiry.kind() == Kind::Unit(expiry));
+    assert_eq!(rt; entries.index() + 1, StampRow::COUNT);
+    assert_eq!(rt; expiry.index() + 1, UnitRow::COUNT);
+    Ok(())
+}
+
+#[test]
+fn stored_stamps_are_those_of_rows(rt: HostRuntime) -> Result<(), Fail> {
+    assert!(rt; 7u64.to_value() == Value::Stamp(7));
+    assert!(rt; IdStamp::Stored(7).to_value() == Value::Stamp(7));
+    assert!(rt; IdStamp::Failed(7).to_value() == Value::FailedAt(7));
+    assert!(rt; ().to_value() == Value::Unit);
+    Ok(())
+}
+
+#[test]
+fn stored_sums_and_states_are_those_of_rows(rt: HostRuntime) -> Result<(), Fail> {
     let sums = Sums {
         debits_pending: 1,
         debits_posted: 2,
@@ -53,18 +66,10 @@ fn stored_values_are_those_of_rows(rt: HostRuntime) -> Result<(), Fail> {
     let voided = Stored {
         record: Status::Voided,
     };
-    for (value, expected) in [
-        (7u64.to_value(), Value::Stamp(7)),
-        (IdStamp::Stored(7).to_value(), Value::Stamp(7)),
-        (IdStamp::Failed(7).to_value(), Value::FailedAt(7)),
-        (().to_value(), Value::Unit),
-        (state.to_value(), Value::State(state)),
-        (Stored { record: sums }.to_value(), Value::Sums(sums)),
-        (voided.to_value(), Value::Status(Status::Voided)),
-    ] {
-        assert_eq!(rt; value, expected);
-    }
+    assert!(rt; Stored { record: sums }.to_value() == Value::Sums(sums));
+    assert!(rt; state.to_value() == Value::State(state));
     assert!(rt; !state.repeats(&state));
+    assert!(rt; voided.to_value() == Value::Status(Status::Voided));
     Ok(())
 }
 
@@ -138,8 +143,39 @@ fn install<'r, N: Naming>(
 fn assert_rows<N: Naming>(rt: &impl Abort, rows: &TwoRows<'_, N>, tables: u32) {
     assert_eq!(rt; rows.references(0), 0);
     assert_eq!(rt; rows.references(1), tables);
-    assert_eq!(rt; rows.find(1, &key(2)), Some(Value::Stamp(2)));
-    assert_eq!(rt; rows.find(0, &key(2)), None);
+    assert!(rt; rows.find(1, &key(2)) == Some(Value::Stamp(2)));
+    assert!(rt; rows.find(0, &key(2)).is_none());
+}
+
+/// An install that the limit refuses changes nothing.
+fn refused_at_the_limit<N: Naming>(
+    rt: &(impl Abort + Wait),
+    alloc: Global,
+    rows: &mut TwoRows<'_, N>,
+) -> Result<(), Fail> {
+    let out = merged(alloc, rows)?;
+    let full = install(rt, rows, &mut Pushes::new(0), out);
+    assert_eq!(rt; full, Outcome::RegistryFull);
+    assert_rows(rt, rows, 4);
+    Ok(())
+}
+
+/// Of two merges of one run the first is installed.
+fn installed_once<N: Naming>(
+    rt: &(impl Abort + Wait),
+    alloc: Global,
+    rows: &mut TwoRows<'_, N>,
+) -> Result<(), Fail> {
+    let first = merged(alloc, rows)?;
+    let second = merged(alloc, rows)?;
+    let mut pushes = Pushes::new(7);
+    let done = install(rt, rows, &mut pushes, first);
+    assert_eq!(rt; done, Outcome::Installed);
+    let stale = install(rt, rows, &mut pushes, second);
+    assert_eq!(rt; stale, Outcome::Stale);
+    assert_eq!(rt; pushes.count(), 1);
+    assert_rows(rt, rows, 3);
+    Ok(())
 }
 
 fn one_row_of_two<N: Naming>(
@@ -152,21 +188,8 @@ fn one_row_of_two<N: Naming>(
     let mut rows = four_tables::<N>(rt, alloc, registry)?;
     let mut copy = KindRows::<u64, Global, N, 2>::new(registry);
     copy.copy_from(&rows);
-    let jobs = (
-        merged(alloc, &rows)?,
-        merged(alloc, &rows)?,
-        merged(alloc, &rows)?,
-    );
-    let full = install(rt, &mut rows, &mut Pushes::new(0), jobs.0);
-    assert_eq!(rt; full, Outcome::RegistryFull);
-    assert_rows(rt, &rows, 4);
-    let mut pushes = Pushes::new(7);
-    let done = install(rt, &mut rows, &mut pushes, jobs.1);
-    assert_eq!(rt; done, Outcome::Installed);
-    let stale = install(rt, &mut rows, &mut pushes, jobs.2);
-    assert_eq!(rt; stale, Outcome::Stale);
-    assert_eq!(rt; pushes.count(), 1);
-    assert_rows(rt, &rows, 3);
+    refused_at_the_limit(rt, alloc, &mut rows)?;
+    installed_once(rt, alloc, &mut rows)?;
     assert_rows(rt, &copy, 4);
     Ok(())
 }

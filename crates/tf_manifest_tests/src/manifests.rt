@@ -15,7 +15,7 @@ use tf_btree::Tree;
 use tf_manifest::{
     Body, KindRows, Manifest, Merged, Naming, Pushes, Registries, Row, Uninstalled, UnitRow, Value,
 };
-use tf_table::seal;
+use tf_table::{Key, seal};
 
 /// The rows of a manifest that store nothing beside their keys.
 type Units<'r, N> = KindRows<'r, (), Global, N, 13>;
@@ -114,13 +114,21 @@ fn assert_expiry<N: Naming>(
 ) {
     assert_eq!(rt; manifest.references(Row::Expiry), tables);
     assert_eq!(rt; manifest.pushed(), pushed);
+    let mut below = Key::LEAST;
     for number in 0..keys {
+        let here = key(number);
         assert!(rt;
-            manifest.find(Row::Expiry, &key(number)) == Some(Value::Unit),
+            manifest.find(Row::Expiry, &here) == Some(Value::Unit),
             "{number}"
         );
+        assert!(rt;
+            manifest.first_above(Row::Expiry, &below) == Some(here),
+            "{number}"
+        );
+        below = here;
     }
     assert!(rt; manifest.find(Row::Expiry, &key(keys)).is_none());
+    assert!(rt; manifest.first_above(Row::Expiry, &below).is_none());
 }
 
 /// No row but expiry has a table.

@@ -1,6 +1,7 @@
 //! The worked example of two small tables, and each public call once.
 
 mod edges;
+mod firsts;
 mod many;
 mod mutable;
 mod refusals;
@@ -41,6 +42,22 @@ fn rows_of<A: Allocator>(
         rows.push((key.value, entry.copied()))?;
     }
     Ok(rows)
+}
+
+/// The value of a row's key, if there is a row.
+fn value_of(row: Option<(&Key, Option<&u64>)>) -> Option<u128> {
+    match row {
+        Some((key, _)) => Some(key.value),
+        None => None,
+    }
+}
+
+/// The entry of a row, if there is a row.
+fn entry_of(row: Option<(&Key, Option<&u64>)>) -> Option<Option<u64>> {
+    match row {
+        Some((_, entry)) => Some(entry.copied()),
+        None => None,
+    }
 }
 
 #[test]
@@ -91,11 +108,11 @@ fn find_tells_values_tombstones_and_missing_keys(rt: HostRuntime) -> Result<(), 
         &tree_of(rt.alloc(), &[(5, None), (7, Some(10)), (9, Some(11))])?,
     )?;
     assert_eq!(rt; table.len(), 3);
-    assert_eq!(rt; table.find(&key(4)).map(|e| e.copied()), None);
-    assert_eq!(rt; table.find(&key(5)).map(|e| e.copied()), Some(None));
-    assert_eq!(rt; table.find(&key(6)).map(|e| e.copied()), None);
-    assert_eq!(rt; table.find(&key(9)).map(|e| e.copied()), Some(Some(11)));
-    assert_eq!(rt; table.find(&key(10)).map(|e| e.copied()), None);
+    assert_eq!(rt; table.find(&key(4)), None);
+    assert_eq!(rt; table.find(&key(5)), Some(None));
+    assert_eq!(rt; table.find(&key(6)), None);
+    assert_eq!(rt; table.find(&key(9)), Some(Some(&11)));
+    assert_eq!(rt; table.find(&key(10)), None);
     Ok(())
 }
 
@@ -109,14 +126,14 @@ fn seek_goes_both_ways(rt: HostRuntime) -> Result<(), Fail> {
         )?,
     )?;
     let mut up = table.seek(&key(2));
-    assert_eq!(rt; up.next().map(|r| r.0.value), Some(3));
-    assert_eq!(rt; up.next_back().map(|r| r.0.value), Some(7));
-    assert_eq!(rt; up.next().map(|r| r.0.value), Some(5));
-    assert_eq!(rt; up.next().map(|r| r.0.value), None);
+    assert_eq!(rt; value_of(up.next()), Some(3));
+    assert_eq!(rt; value_of(up.next_back()), Some(7));
+    assert_eq!(rt; value_of(up.next()), Some(5));
+    assert_eq!(rt; value_of(up.next()), None);
     let mut down = table.seek_back(&key(6));
-    assert_eq!(rt; down.next_back().map(|r| r.0.value), Some(5));
-    assert_eq!(rt; down.next_back().map(|r| r.0.value), Some(3));
-    assert_eq!(rt; down.next_back().map(|r| r.0.value), Some(1));
-    assert_eq!(rt; down.next_back().map(|r| r.0.value), None);
+    assert_eq!(rt; value_of(down.next_back()), Some(5));
+    assert_eq!(rt; value_of(down.next_back()), Some(3));
+    assert_eq!(rt; value_of(down.next_back()), Some(1));
+    assert_eq!(rt; value_of(down.next_back()), None);
     Ok(())
 }

@@ -1,6 +1,6 @@
 //! Tables at the edges: one entry that differs, tombstones alone, the least and the greatest key.
 
-use super::{key, rows_of, tree_of};
+use super::{entry_of, key, rows_of, tree_of};
 use std::alloc::Global;
 use std::test::Fail;
 use tf_btree::Tree;
@@ -33,8 +33,8 @@ fn entries_that_differ_in_the_last_row_alone(rt: HostRuntime) -> Result<(), Fail
     );
     let merged = merge(rt.alloc(), &[&table_of(&rt, &values)?], false)?;
     assert_eq!(rt; rows_of(&rt, &merged)?.as_slice(), values.as_slice());
-    assert_eq!(rt; merged.find(&key(3)).map(|e| e.copied()), Some(Some(7)));
-    assert_eq!(rt; merged.find(&key(4)).map(|e| e.copied()), Some(Some(8)));
+    assert_eq!(rt; merged.find(&key(3)), Some(Some(&7)));
+    assert_eq!(rt; merged.find(&key(4)), Some(Some(&8)));
     Ok(())
 }
 
@@ -42,8 +42,8 @@ fn entries_that_differ_in_the_last_row_alone(rt: HostRuntime) -> Result<(), Fail
 fn tables_of_tombstones_alone(rt: HostRuntime) -> Result<(), Fail> {
     let newest = table_of(&rt, &[(2, None), (4, None)])?;
     let older = table_of(&rt, &[(1, None), (2, None)])?;
-    assert_eq!(rt; newest.find(&key(2)).map(|e| e.copied()), Some(None));
-    assert_eq!(rt; newest.find(&key(3)).map(|e| e.copied()), None);
+    assert_eq!(rt; newest.find(&key(2)), Some(None));
+    assert_eq!(rt; newest.find(&key(3)), None);
     let above = merge(rt.alloc(), &[&newest, &older], false)?;
     assert_eq!(rt;
         rows_of(&rt, &above)?.as_slice(),
@@ -101,22 +101,14 @@ fn find_and_seek_at_the_least_and_the_greatest_key(rt: HostRuntime) -> Result<()
     let _ = tree.insert(Key::LEAST, Some(1)).ok().ok_or("no memory")?;
     let _ = tree.insert(greatest, Some(2)).ok().ok_or("no memory")?;
     let table = seal(rt.alloc(), &tree)?;
-    assert_eq!(rt; table.find(&Key::LEAST).map(|e| e.copied()), Some(Some(1)));
-    assert_eq!(rt; table.find(&greatest).map(|e| e.copied()), Some(Some(2)));
+    assert_eq!(rt; table.find(&Key::LEAST), Some(Some(&1)));
+    assert_eq!(rt; table.find(&greatest), Some(Some(&2)));
     assert!(rt; table.find(&key(1)).is_none());
-    assert_eq!(rt;
-        table.seek(&greatest).next().map(|r| r.1.copied()),
-        Some(Some(2))
-    );
-    assert_eq!(rt;
-        table
-            .seek_back(&Key::LEAST)
-            .next_back()
-            .map(|r| r.1.copied()),
-        Some(Some(1))
-    );
+    assert_eq!(rt; entry_of(table.seek(&greatest).next()), Some(Some(2)));
+    let last = table.seek_back(&Key::LEAST).next_back();
+    assert_eq!(rt; entry_of(last), Some(Some(1)));
     let one = merge(rt.alloc(), &[&table, &table], false)?;
     assert_eq!(rt; one.len(), 2);
-    assert_eq!(rt; one.find(&greatest).map(|e| e.copied()), Some(Some(2)));
+    assert_eq!(rt; one.find(&greatest), Some(Some(&2)));
     Ok(())
 }

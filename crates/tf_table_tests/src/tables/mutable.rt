@@ -39,6 +39,17 @@ fn entry(i: u64) -> Option<u64> {
     }
 }
 
+/// The entry of a key, if the table has the key.
+fn found<A: Allocator + Clone, M: MutableTable<u64, A>>(
+    table: &M,
+    key: &Key,
+) -> Option<Option<u64>> {
+    match table.find(key) {
+        Some(entry) => Some(entry.copied()),
+        None => None,
+    }
+}
+
 /// Puts a row of a new key. It tells whether the key was new.
 pub(super) fn put<A: Allocator + Clone, M: MutableTable<u64, A>>(
     table: &mut M,
@@ -100,11 +111,7 @@ fn assert_filled<M: MutableTable<u64, Global>>(rt: &impl Abort, table: &M, rises
             _ => Some(entry(i)),
         };
         rows = rows.wrapping_add(usize::from(expected.is_some()));
-        assert_eq!(rt;
-            table.find(&key(i, rises)).map(|e| e.copied()),
-            expected,
-            "row {i}"
-        );
+        assert_eq!(rt; found(table, &key(i, rises)), expected, "row {i}");
     }
     assert_eq!(rt; table.len(), rows);
 }
@@ -159,7 +166,7 @@ fn assert_rows<A: Allocator + Clone, M: MutableTable<u64, A>>(
     for i in 0..FEW {
         let expected = if i < count { Some(entry(i)) } else { None };
         assert_eq!(rt;
-            table.find(&key(i, rises)).map(|e| e.copied()),
+            found(table, &key(i, rises)),
             expected,
             "row {i} of {count}"
         );

@@ -29,6 +29,14 @@ fn random_rows(rt: &impl AllocGlobal) -> Result<(Tree<u64, u64, Global>, Vec<(u6
     Ok((tree, rows))
 }
 
+/// A row that is lent, if there is one.
+fn copied<K: Copy, V: Copy>(row: Option<(&K, &V)>) -> Option<(K, V)> {
+    match row {
+        Some((key, value)) => Some((*key, *value)),
+        None => None,
+    }
+}
+
 #[test]
 fn walks_from_random_keys_give_the_next_rows(rt: HostRuntime) -> Result<(), Fail> {
     let (tree, rows) = random_rows(&rt)?;
@@ -42,14 +50,8 @@ fn walks_from_random_keys_give_the_next_rows(rt: HostRuntime) -> Result<(), Fail
         let mut down = tree.seek_back(&key);
         let mut wanted_down = rows.iter().rev().skip_while(|row| row.0 > key);
         for _ in 0..STEPS {
-            assert_eq!(rt;
-                up.next().map(|row| (*row.0, *row.1)),
-                wanted_up.next().copied()
-            );
-            assert_eq!(rt;
-                down.next().map(|row| (*row.0, *row.1)),
-                wanted_down.next().copied()
-            );
+            assert_eq!(rt; copied(up.next()), wanted_up.next().copied());
+            assert_eq!(rt; copied(down.next()), wanted_down.next().copied());
         }
     }
     Ok(())
@@ -78,11 +80,11 @@ fn a_walk_down_ends_where_no_key_is_left(rt: HostRuntime) -> Result<(), Fail> {
     }
     assert!(rt; tree.seek_back(&9).next().is_none());
     let mut at_least = tree.seek_back(&10);
-    assert_eq!(rt; at_least.next().map(|row| *row.0), Some(10));
+    assert_eq!(rt; copied(at_least.next()), Some((10, 1)));
     assert!(rt; at_least.next().is_none());
     let mut between = tree.seek_back(&335);
-    assert_eq!(rt; between.next().map(|row| *row.0), Some(330));
-    assert_eq!(rt; between.next().map(|row| *row.0), Some(320));
-    assert_eq!(rt; tree.seek_back(&5000).next().map(|row| *row.0), Some(640));
+    assert_eq!(rt; copied(between.next()), Some((330, 33)));
+    assert_eq!(rt; copied(between.next()), Some((320, 32)));
+    assert_eq!(rt; copied(tree.seek_back(&5000).next()), Some((640, 64)));
     Ok(())
 }
