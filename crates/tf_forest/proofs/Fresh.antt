@@ -31,6 +31,9 @@ use Rattle.tf_manifest.specs.View.{StoredBy, value_by}
 use Rattle.tf_forest.specs.Fresh.{Fresh, entries_by, fresh_by}
 use Rattle.tf_forest.specs.Nest.{IsTree, fits_row, is_of_kind, is_tree}
 use Rattle.tf_forest.specs.Parts.{GivesBack, PutsEntry, seen_rows}
+use Rattle.tf_forest.specs.SealedRow.{IsSealedOf, entries_of_sealed, kind_of_sealed}
+use Rattle.tf_forest.specs.declared.sealed_row.SealedRow.{SealedRow}
+use Rattle.tf_manifest.specs.Row.{is_nil}
 use Rattle.tf_forest.proofs.Parts.{none-seen}
 
 -- the same with other entries in one row
@@ -105,14 +108,23 @@ module _ {X : Type 0} where
       ∙ ap (λ (i : ℕ). slice_set (xs ++ last ∷ []) i x) e
 
   -- no list has anything
-  abbrev AreNone : List (List X) → Type 0
+  abbrev pub AreNone : List (List X) → Type 0
   AreNone [] = ⊤
   AreNone (rows ∷ xs) = (rows ≡ []) × AreNone xs
 
-  none_at : (xs : List (List X)) (at : ℕ) → AreNone xs → slice_index_or xs at [] ≡ []
-  none_at [] at none = refl
-  none_at (rows ∷ xs) zero none = none.0
-  none_at (rows ∷ xs) (suc at) none = none_at xs at none.1
+  pub none_at : (xs : List (List X)) → AreNone xs → (at : ℕ) → slice_index_or xs at [] ≡ []
+  none_at [] none at = refl
+  none_at (rows ∷ xs) none zero = none.0
+  none_at (rows ∷ xs) none (suc at) = none_at xs none.1 at
+
+  two_none : (first second : List X) → first ≡ [] → second ≡ [] → (at : ℕ) → slice_index_or (first ∷ second ∷ []) at [] ≡ []
+  two_none first second f s = none_at (first ∷ second ∷ []) (f, (s, tt))
+
+  none_and_last : (xs : List (List X)) (last : List X) → ((at : ℕ) → slice_index_or xs at [] ≡ []) → last ≡ [] → (at : ℕ) → slice_index_or (xs ++ last ∷ []) at [] ≡ []
+  none_and_last [] last none l zero = l
+  none_and_last [] last none l (suc at) = refl
+  none_and_last (rows ∷ xs) last none l zero = none 0
+  none_and_last (rows ∷ xs) last none l (suc at) = none_and_last xs last (λ i. none (suc i)) l at
 
   pub one_more : (xs : List (List X)) (last : List X) → length xs ≡ 12 → length (xs ++ last ∷ []) ≡ 13
   one_more xs last many = length-append xs (last ∷ []) ∙ ap (λ (n : ℕ). n + 1) many
@@ -297,28 +309,27 @@ with_same fresh kind.Sums = refl
 with_same fresh kind.Status = refl
 
 -- no row has an entry where no table has
-no_entries : (fresh : Fresh) → AreNone fresh.stamps → fresh.accounts ≡ [] → fresh.transfers ≡ [] → fresh.ids ≡ [] → AreNone fresh.units → fresh.states ≡ [] → fresh.sums ≡ [] → fresh.statuses ≡ []
+no_entries : (fresh : Fresh) → ((i : ℕ) → slice_index_or fresh.stamps i [] ≡ []) → fresh.accounts ≡ [] → fresh.transfers ≡ [] → fresh.ids ≡ [] → ((i : ℕ) → slice_index_or fresh.units i [] ≡ []) → fresh.states ≡ [] → fresh.sums ≡ [] → fresh.statuses ≡ []
     → (r : Row) → entries_by fresh r ≡ []
 no_entries fresh stamps accounts transfers ids units states sums statuses r = ap (seen_rows (value_by (kind_of r))) (by_kind (kind_of r)) where
   by_kind : (k : Kind) → fresh_by fresh k ≡ []
-  by_kind (kind.Stamp u) = none_at fresh.stamps (stamp_index u) stamps
+  by_kind (kind.Stamp u) = stamps (stamp_index u)
   by_kind kind.Account = accounts
   by_kind kind.Transfer = transfers
   by_kind kind.Id = ids
-  by_kind (kind.Unit u) = none_at fresh.units (unit_index u) units
+  by_kind (kind.Unit u) = units (unit_index u)
   by_kind kind.State = states
   by_kind kind.Sums = sums
   by_kind kind.Status = statuses
 
 pub none_in_any : {account_ids expiry_entries : List (Key × Option ℕ)} {accounts : List (Key × Option (Stored Account))} {transfers : List (Key × Option (Stored Transfer))} {ids : List (Key × Option IdStamp)}
-    {i0 i1 i2 i3 i4 i5 i6 i7 i8 i9 i10 i11 expiry : List (Key × Option (Unit {0}))} {states : List (Key × Option State)} {sums : List (Key × Option (Stored Sums))} {statuses : List (Key × Option (Stored Status))}
-    → account_ids ≡ [] → expiry_entries ≡ [] → accounts ≡ [] → transfers ≡ [] → ids ≡ []
-    → i0 ≡ [] → i1 ≡ [] → i2 ≡ [] → i3 ≡ [] → i4 ≡ [] → i5 ≡ [] → i6 ≡ [] → i7 ≡ [] → i8 ≡ [] → i9 ≡ [] → i10 ≡ [] → i11 ≡ [] → expiry ≡ []
-    → states ≡ [] → sums ≡ [] → statuses ≡ []
-    → (r : Row) → entries_by (record { stamps = account_ids ∷ expiry_entries ∷ []; accounts = accounts; transfers = transfers; ids = ids; units = i0 ∷ i1 ∷ i2 ∷ i3 ∷ i4 ∷ i5 ∷ i6 ∷ i7 ∷ i8 ∷ i9 ∷ i10 ∷ i11 ∷ expiry ∷ []; states = states; sums = sums; statuses = statuses }) r ≡ []
-none_in_any {account_ids} {expiry_entries} {accounts} {transfers} {ids} {i0} {i1} {i2} {i3} {i4} {i5} {i6} {i7} {i8} {i9} {i10} {i11} {expiry} {states} {sums} {statuses} a e no_accounts no_transfers no_ids u0 u1 u2 u3 u4 u5 u6 u7 u8 u9 u10 u11 u12 no_states no_sums no_statuses =
-    no_entries (record { stamps = account_ids ∷ expiry_entries ∷ []; accounts = accounts; transfers = transfers; ids = ids; units = i0 ∷ i1 ∷ i2 ∷ i3 ∷ i4 ∷ i5 ∷ i6 ∷ i7 ∷ i8 ∷ i9 ∷ i10 ∷ i11 ∷ expiry ∷ []; states = states; sums = sums; statuses = statuses })
-    (a, (e, tt)) no_accounts no_transfers no_ids (u0, (u1, (u2, (u3, (u4, (u5, (u6, (u7, (u8, (u9, (u10, (u11, (u12, tt))))))))))))) no_states no_sums no_statuses
+    {expiry : List (Key × Option (Unit {0}))} {states : List (Key × Option State)} {sums : List (Key × Option (Stored Sums))} {statuses : List (Key × Option (Stored Status))}
+    → (indexes : List (List (Key × Option (Unit {0})))) → account_ids ≡ [] → expiry_entries ≡ [] → accounts ≡ [] → transfers ≡ [] → ids ≡ []
+    → ((i : ℕ) → slice_index_or indexes i [] ≡ []) → expiry ≡ [] → states ≡ [] → sums ≡ [] → statuses ≡ []
+    → (r : Row) → entries_by (record { stamps = account_ids ∷ expiry_entries ∷ []; accounts = accounts; transfers = transfers; ids = ids; units = indexes ++ expiry ∷ []; states = states; sums = sums; statuses = statuses }) r ≡ []
+none_in_any {account_ids} {expiry_entries} {accounts} {transfers} {ids} {expiry} {states} {sums} {statuses} indexes no_account_ids no_expiry_entries no_accounts no_transfers no_ids no_indexes no_expiry no_states no_sums no_statuses =
+    no_entries (record { stamps = account_ids ∷ expiry_entries ∷ []; accounts = accounts; transfers = transfers; ids = ids; units = indexes ++ expiry ∷ []; states = states; sums = sums; statuses = statuses })
+    (two_none account_ids expiry_entries no_account_ids no_expiry_entries) no_accounts no_transfers no_ids (none_and_last indexes expiry no_indexes no_expiry) no_states no_sums no_statuses
 
 -- other entries of a row that stores nothing beside its keys
 pub units_become : (inside : Fresh) (u : UnitRow) (rows : List (Key × Option (Unit {0}))) (units : List (List (Key × Option (Unit {0})))) → units ≡ slice_set inside.units (unit_index u) rows
@@ -334,6 +345,13 @@ module _ (inside view : Fresh) (is : inside ≡ view) (r : Row) (k : Kind) (of :
       ap (seen_rows (value_by k)) (sym has)
       ∙ ap (λ (fresh : Fresh). seen_rows (value_by k) (fresh_by fresh k)) is
       ∙ ap (λ (x : Kind). seen_rows (value_by x) (fresh_by view x)) of
+
+  pub none_found : (result : Bool) → result ≡ is_nil (seen_rows (value_by k) old) → result ≡ is_nil (entries_by view r)
+  none_found result e = e ∙ ap is_nil read
+
+  -- a sealed table of this kind with these entries is sealed of the row
+  pub sealed_of : {A : Type 0} (s : SealedRow A) (named : kind_of_sealed s ≡ k) → seen_rows (value_by (kind_of_sealed s)) (entries_of_sealed s) ≡ seen_rows (value_by k) old → IsSealedOf {A = A} (entries_by view) r s
+  sealed_of s named e = record { of = named ∙ of; entries = e ∙ read }
 
   pub found : (key : Key) (result : Option (Option Value)) → result ≡ entry_at key (seen_rows (value_by k) old) → result ≡ entry_at key (entries_by view r)
   found key result e = e ∙ ap (entry_at key) read
@@ -388,7 +406,9 @@ module _ (inside view : Fresh) (is : inside ≡ view) (r : Row) (k : Kind) (of :
         → GivesBack r key before (entries_by view) (entries_by new)
     gives_back key before back = record { here = changed_here ∙ back ∙ ap (given_back key before) read; elsewhere = changed_elsewhere }
 
+    pub unchanged : rows ≡ old → entries_by new ≡ entries_by view
+    unchanged same = ap entries_by (becomes ∙ ap (with_fresh inside k) (same ∙ sym has) ∙ with_same inside k ∙ is)
+
     pub keeps : (result : Result (Option (Option Value)) Refusal) → OnErr result (rows ≡ old) → OnErr result (entries_by new ≡ entries_by view)
     keeps (Ok before) same = tt
-    keeps (Err refusal) same =
-        ap entries_by (becomes ∙ ap (with_fresh inside k) (same ∙ sym has) ∙ with_same inside k ∙ is)
+    keeps (Err refusal) same = unchanged same

@@ -24,3 +24,4 @@ pub mod DueRows
 pub mod BelowFloors
 pub mod Added
 pub mod Sealed
+pub mod SealedRows

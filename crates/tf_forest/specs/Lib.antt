@@ -10,4 +10,5 @@ pub mod Range
 pub mod Nest
 pub mod Floors
 pub mod Forest
+pub mod SealedRow
 pub mod Due

@@ -7,6 +7,7 @@ ghost use Rattle.tf_table.specs.First.{IsFirstAbove};
 ghost use Rattle.tf_table.specs.Key.{key_cmp};
 ghost use Rattle.tf_table.specs.Mutable.{given_back};
 ghost use Rattle.tf_forest.specs.Parts.{seen_rows};
+ghost use Rattle.tf_manifest.specs.Row.{is_nil};
 
 use crate::held::Held;
 use std::alloc::Allocator;
@@ -28,6 +29,13 @@ pub(crate) fn entry_in<V: Held, M: MutableTable<V, A>, A: Allocator + Clone>(
         Some(entry) => Some(seen_entry(entry)),
         None => None,
     }
+}
+
+/// Whether there is no entry.
+pub(crate) fn has_none<V: Held, M: MutableTable<V, A>, A: Allocator + Clone>(table: &M) -> bool
+    ensures { result ≡ is_nil (seen_rows V.seen (M.rows table.now)) }
+{
+    table.is_empty()
 }
 
 /// The first key above a given one that has an entry, a value or a tombstone, if one has.

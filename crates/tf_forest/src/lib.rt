@@ -27,6 +27,8 @@ mod note;
 mod row_change;
 mod row_set;
 mod rows;
+mod seal_rows;
+mod sealed_row;
 mod spelled;
 mod transfers;
 
@@ -48,4 +50,6 @@ pub use mutable_rows::MutableRows;
 pub use mutable_tables::MutableTables;
 pub use row_set::RowSet;
 pub use rows::Rows;
+pub use seal_rows::SealRows;
+pub use sealed_row::SealedRow;
 pub use spelled::rows_spell_the_journal_they_show;

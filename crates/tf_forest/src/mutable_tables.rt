@@ -1,5 +1,5 @@
 //! The mutable tables of the 21 rows.
-ghost use Rattle.std.specs.Prelude.{◌≡◌, ◌<◌, [], None, length, slice_index_or, slice_set, IsSome, IfSome, IfNone, IfOk, IfErr, OnOk, OnErr};
+ghost use Rattle.std.specs.Prelude.{◌≡◌, ◌<◌, ℕ, [], None, length, slice_index_or, slice_set, IsSome, IfSome, IfNone, IfOk, IfErr, OnOk, OnErr};
 ghost use Rattle.tf_btree.specs.Rows.{with_row};
 ghost use Rattle.tf_forest.specs.Fresh.{entries_by};
 ghost use Rattle.tf_forest.specs.Held.{unit_held};
@@ -10,15 +10,15 @@ ghost use Rattle.tf_table.specs.Content.{entry_at};
 ghost use Rattle.tf_table.specs.Key.{key_cmp};
 ghost use Rattle.tf_table.specs.Mutable.{given_back};
 
-use crate::entry::{Before, entry_in, first_above, put_entry, take_back};
-use crate::{EmptyRows, MutableRows};
+use crate::entry::{Before, entry_in, first_above, has_none, put_entry, take_back};
+use crate::{EmptyRows, MutableRows, SealRows, SealedRow};
 use std::alloc::Allocator;
 use std::marker::Model;
 use tf_btree::Tree;
 use tf_journal::Status;
 use tf_manifest::{IdStamp, Kind, Row, StampRow, State, Stored, UnitRow, Value};
 use tf_records::{Account, Refusal, Sums, Transfer};
-use tf_table::{Key, Log, MutableTable};
+use tf_table::{Key, Log, MutableTable, Sealed};
 
 /// How many indexes there are: the rows that store nothing beside their keys, but for expiry.
 const INDEXES: usize = 12;
@@ -107,6 +107,30 @@ fn take_back_in_one<A: Allocator + Clone>(
     ensures rows { seen_rows (λ nothing. Value.Unit) (slice_index_or indexes.new place []) ≡ given_back key.now before (seen_rows (λ nothing. Value.Unit) (slice_index_or indexes.old place [])) }
 {
     take_back(&mut indexes[place], key, before);
+}
+
+/// The entries of one of several indexes as a sealed table. They stay. The only refusal is `NoMemory`.
+fn seal_one<A: Allocator + Clone>(
+    indexes: &mut [Log<(), A>],
+    place: usize,
+    alloc: A,
+) -> Result<Sealed<(), A>, Refusal>
+    requires { place < length indexes.old }
+    ensures sealed { IfOk result (λ sealed. sealed ≡ slice_index_or indexes.old place []) }
+    ensures same { indexes.new ≡ indexes.old }
+    ensures refusal { IfErr result (λ refusal. refusal ≡ Refusal.NoMemory) }
+{
+    indexes[place].seal(alloc)
+}
+
+/// Takes all entries of indexes away. It takes no memory.
+fn clear_all<A: Allocator + Clone>(indexes: &mut [Log<(), A>])
+    ensures none { (place : ℕ) → slice_index_or indexes.new place [] ≡ [] }
+    ensures many { length indexes.new ≡ length indexes.old }
+{
+    for place in 0..indexes.len() {
+        indexes[place].clear();
+    }
 }
 
 impl<A: Allocator + Clone> MutableRows for MutableTables<A> {
@@ -210,5 +234,63 @@ impl<A: Allocator + Copy> EmptyRows<A> for MutableTables<A> {
             history: Log::new_in(alloc),
             pending_status: Tree::new_in(alloc),
         }
+    }
+}
+
+impl<A: Allocator + Clone> SealRows<A> for MutableTables<A> {
+    fn has_none(&self, row: Row) -> bool {
+        match row.kind() {
+            Kind::Stamp(StampRow::AccountIds) => has_none(&self.account_ids),
+            Kind::Stamp(StampRow::ExpiryEntries) => has_none(&self.expiry_entries),
+            Kind::Account => has_none(&self.account_objects),
+            Kind::Transfer => has_none(&self.transfer_objects),
+            Kind::Id => has_none(&self.transfer_ids),
+            Kind::Unit(row) => match index_place(row) {
+                Some(place) => has_none(&self.indexes.as_slice()[place]),
+                None => has_none(&self.expiry),
+            },
+            Kind::State => has_none(&self.account_sums),
+            Kind::Sums => has_none(&self.history),
+            Kind::Status => has_none(&self.pending_status),
+        }
+    }
+
+    fn seal(&mut self, row: Row, alloc: A) -> Result<SealedRow<A>, Refusal> {
+        match row.kind() {
+            Kind::Stamp(StampRow::AccountIds) => Ok(SealedRow::Stamp(
+                StampRow::AccountIds,
+                self.account_ids.seal(alloc)?,
+            )),
+            Kind::Stamp(StampRow::ExpiryEntries) => Ok(SealedRow::Stamp(
+                StampRow::ExpiryEntries,
+                self.expiry_entries.seal(alloc)?,
+            )),
+            Kind::Account => Ok(SealedRow::Account(self.account_objects.seal(alloc)?)),
+            Kind::Transfer => Ok(SealedRow::Transfer(self.transfer_objects.seal(alloc)?)),
+            Kind::Id => Ok(SealedRow::Id(self.transfer_ids.seal(alloc)?)),
+            Kind::Unit(row) => match index_place(row) {
+                Some(place) => {
+                    let index = seal_one(self.indexes.as_mut_slice(), place, alloc)?;
+                    Ok(SealedRow::Unit(row, index))
+                }
+                None => Ok(SealedRow::Unit(row, self.expiry.seal(alloc)?)),
+            },
+            Kind::State => Ok(SealedRow::State(self.account_sums.seal(alloc)?)),
+            Kind::Sums => Ok(SealedRow::Sums(self.history.seal(alloc)?)),
+            Kind::Status => Ok(SealedRow::Status(self.pending_status.seal(alloc)?)),
+        }
+    }
+
+    fn clear(&mut self) {
+        self.account_ids.clear();
+        self.expiry_entries.clear();
+        self.account_objects.clear();
+        self.transfer_objects.clear();
+        self.transfer_ids.clear();
+        clear_all(self.indexes.as_mut_slice());
+        self.expiry.clear();
+        self.account_sums.clear();
+        self.history.clear();
+        self.pending_status.clear();
     }
 }
