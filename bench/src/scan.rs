@@ -21,8 +21,23 @@ const JOINED_TABLES: u64 = 20;
 const FIRST_ROUNDS: u64 = 10_000;
 const FIRST: usize = 10;
 
-/// How often all timestamps are read.
+/// How often all timestamps are read, and how many they are at most.
 const ALL_ROUNDS: u64 = 100;
+const ALL: usize = 8_190;
+
+/// Timestamps that come in order.
+trait Scan: Iterator<Item = u64> {
+    /// Moves the first timestamps to the front of `out`, and tells how many those are.
+    fn take_into(&mut self, out: &mut [u64]) -> usize {
+        for (taken, place) in out.iter_mut().enumerate() {
+            match self.next() {
+                Some(timestamp) => *place = timestamp,
+                None => return taken,
+            }
+        }
+        out.len()
+    }
+}
 
 struct Table {
     lists: HashMap<u64, Vec<u64>>,
@@ -43,18 +58,18 @@ struct Intersection<'t, const BACK: bool>(Prefix<'t, BACK>, Prefix<'t, BACK>);
 
 pub fn first<const BACK: bool>(run: Run, tables: u64) -> Measured {
     let row = row_of(run.count, tables);
-    rounds(FIRST_ROUNDS, || Prefix::<BACK>::of(&row, ALONE).take(FIRST))
+    rounds(FIRST_ROUNDS, FIRST, || Prefix::<BACK>::of(&row, ALONE))
 }
 
 pub fn all<const BACK: bool>(run: Run, tables: u64) -> Measured {
     let row = row_of(run.count, tables);
-    rounds(ALL_ROUNDS, || Prefix::<BACK>::of(&row, ALONE))
+    rounds(ALL_ROUNDS, ALL, || Prefix::<BACK>::of(&row, ALONE))
 }
 
 pub fn union<const BACK: bool>(run: Run) -> Measured {
     let row = row_of(run.count, JOINED_TABLES);
     let [left, right] = UNITED;
-    rounds(ALL_ROUNDS, || {
+    rounds(ALL_ROUNDS, ALL, || {
         Union::<BACK>(Prefix::of(&row, left), Prefix::of(&row, right))
     })
 }
@@ -62,18 +77,20 @@ pub fn union<const BACK: bool>(run: Run) -> Measured {
 pub fn intersection<const BACK: bool>(run: Run) -> Measured {
     let row = row_of(run.count, JOINED_TABLES);
     let [left, right] = SHARED;
-    rounds(ALL_ROUNDS, || {
+    rounds(ALL_ROUNDS, ALL, || {
         Intersection::<BACK>(Prefix::of(&row, left), Prefix::of(&row, right))
     })
 }
 
-/// Reads a scan to its end, so many times.
-fn rounds<S: Iterator<Item = u64>>(rounds: u64, scan: impl Fn() -> S) -> Measured {
+/// Moves the first timestamps of a scan into a slice of this length, so many times.
+fn rounds<S: Scan>(rounds: u64, limit: usize, scan: impl Fn() -> S) -> Measured {
+    let mut room = vec![0; limit];
     measure(|| {
         let mut sum = 0;
         for _ in 0..rounds {
-            for timestamp in scan() {
-                sum = mixed(sum, timestamp);
+            let taken = scan().take_into(&mut room);
+            for timestamp in &room[..taken] {
+                sum = mixed(sum, *timestamp);
             }
         }
         sum
@@ -189,6 +206,51 @@ impl<'t, const BACK: bool> Prefix<'t, BACK> {
             self.settle();
         }
     }
+}
+
+impl<const BACK: bool> Scan for Prefix<'_, BACK> {
+    /// What one list alone has next is moved in one loop.
+    fn take_into(&mut self, out: &mut [u64]) -> usize {
+        let mut taken = 0;
+        while taken < out.len() {
+            let Some(timestamp) = self.next() else {
+                return taken;
+            };
+            out[taken] = timestamp;
+            taken += 1;
+            let others = self.lists.get(self.ended + 1);
+            let until = others.and_then(|other| head::<BACK>(other));
+            if let Some(list) = self.lists.get_mut(self.ended) {
+                taken += take_before::<BACK>(list, until, &mut out[taken..]);
+                self.settle();
+            }
+        }
+        taken
+    }
+}
+
+impl<const BACK: bool> Scan for Union<'_, BACK> {}
+
+impl<const BACK: bool> Scan for Intersection<'_, BACK> {}
+
+/// Moves the first timestamps of a list to the front of `out`, as long as they come before another one.
+fn take_before<const BACK: bool>(list: &mut &[u64], until: Option<u64>, out: &mut [u64]) -> usize {
+    let mut left = *list;
+    let mut taken = 0;
+    while taken < out.len() {
+        let first = if BACK { left.split_last() } else { left.split_first() };
+        let Some((timestamp, others)) = first else {
+            break;
+        };
+        if until.is_some_and(|until| !is_before::<BACK>(*timestamp, until)) {
+            break;
+        }
+        out[taken] = *timestamp;
+        taken += 1;
+        left = others;
+    }
+    *list = left;
+    taken
 }
 
 impl<const BACK: bool> Iterator for Prefix<'_, BACK> {

@@ -19,10 +19,12 @@ const STEPS: [u64; 5] = [1, 2, 3, 5, 199];
 /// How often the first timestamps are read, and how many they are.
 const FIRST_ROUNDS: u64 = 10_000;
 
-const FIRST: u64 = 10;
+const FIRST: usize = 10;
 
-/// How often all timestamps are read.
+/// How often all timestamps are read, and how many they are at most.
 const ALL_ROUNDS: u64 = 100;
+
+const ALL: usize = 8_190;
 
 /// How many tables the row of a join has.
 const JOINED_TABLES: u64 = 20;
@@ -41,6 +43,24 @@ pub(crate) enum Scanned {
     Union,
     /// The intersection of many timestamps with few.
     Intersection,
+}
+
+impl Scanned {
+    /// How often it is read.
+    fn rounds(self) -> u64 {
+        match self {
+            Scanned::First => FIRST_ROUNDS,
+            _ => ALL_ROUNDS,
+        }
+    }
+
+    /// How many timestamps are read.
+    fn limit(self) -> usize {
+        match self {
+            Scanned::First => FIRST,
+            _ => ALL,
+        }
+    }
 }
 
 /// Reads scans of one kind in a row of so many tables.
@@ -77,14 +97,14 @@ fn read_in<N: Naming, R: Clock + AllocGlobal + Wait>(
     requires room { tables ≤ 64 }
 {
     let row: Row<'_, N> = row_of(rt, registry, run.count, tables)?;
-    let (rounds, limit) = match scanned {
-        Scanned::First => (FIRST_ROUNDS, FIRST),
-        _ => (ALL_ROUNDS, u64::MAX),
-    };
+    let mut room = vec![in rt.alloc(); 0; scanned.limit()]?;
     let mut sum = 0;
     let start = Instant::now(rt)?;
-    for _round in 0..rounds {
-        sum = sum_of(rt, &row, scanned, direction, limit, sum)?;
+    for _round in 0..scanned.rounds() {
+        let taken = take(rt, &row, scanned, direction, &mut room)?;
+        for timestamp in room.iter().take(taken) {
+            sum = mixed(sum, *timestamp);
+        }
     }
     let nanoseconds = start.elapsed(rt)?.as_nanos();
     Ok(Measured {
@@ -93,44 +113,51 @@ fn read_in<N: Naming, R: Clock + AllocGlobal + Wait>(
     })
 }
 
-/// A sum that goes on over the first timestamps of a scan.
-fn sum_of<N: Naming, R: AllocGlobal>(
+/// Moves the first timestamps of a scan to the front of `room`, and tells how many those are.
+///
+/// Each kind of scan has a function of its own, which pays for the room of its own scans alone.
+fn take<N: Naming, R: AllocGlobal>(
     rt: &R,
     row: &Row<'_, N>,
     scanned: Scanned,
     direction: Direction,
-    limit: u64,
-    sum: u64,
-) -> Result<u64, AllocError> {
-    let mut sum = sum;
-    let mut scan = scan_of(rt, row, scanned, direction)?;
-    for _timestamp in 0..limit {
-        match scan.next() {
-            Some(timestamp) => sum = mixed(sum, timestamp),
-            None => return Ok(sum),
-        }
+    room: &mut [u64],
+) -> Result<usize, AllocError> {
+    match scanned {
+        Scanned::First | Scanned::All => Ok(take_multiples(row, direction, room)),
+        Scanned::Union => take_union(rt, row, direction, room),
+        Scanned::Intersection => take_intersection(rt, row, direction, room),
     }
-    Ok(sum)
 }
 
-/// A scan of the row.
-fn scan_of<'r, N: Naming, R: AllocGlobal>(
+/// The same of the multiples of 3.
+fn take_multiples<N: Naming>(row: &Row<'_, N>, direction: Direction, room: &mut [u64]) -> usize {
+    let mut scan: Scan<_, Global> = Scan::leaf(Prefix::new(row, 3, direction));
+    scan.take_into(room)
+}
+
+/// The same of the multiples of 2 and of 3.
+fn take_union<N: Naming, R: AllocGlobal>(
     rt: &R,
-    row: &Row<'r, N>,
-    scanned: Scanned,
+    row: &Row<'_, N>,
     direction: Direction,
-) -> Result<Scan<Prefix<'r, (), Global>, Global>, AllocError> {
-    match scanned {
-        Scanned::First | Scanned::All => Ok(multiples(row, 3, direction)),
-        Scanned::Union => {
-            let (left, right) = (multiples(row, 2, direction), multiples(row, 3, direction));
-            Scan::union(rt.alloc(), left, right).map_err(|_| AllocError)
-        }
-        Scanned::Intersection => {
-            let (left, right) = (multiples(row, 2, direction), multiples(row, 199, direction));
-            Scan::intersection(rt.alloc(), left, right).map_err(|_| AllocError)
-        }
-    }
+    room: &mut [u64],
+) -> Result<usize, AllocError> {
+    let (left, right) = (multiples(row, 2, direction), multiples(row, 3, direction));
+    let mut scan = Scan::union(rt.alloc(), left, right).map_err(|_| AllocError)?;
+    Ok(scan.take_into(room))
+}
+
+/// The same of the numbers that are multiples of both 2 and 199.
+fn take_intersection<N: Naming, R: AllocGlobal>(
+    rt: &R,
+    row: &Row<'_, N>,
+    direction: Direction,
+    room: &mut [u64],
+) -> Result<usize, AllocError> {
+    let (left, right) = (multiples(row, 2, direction), multiples(row, 199, direction));
+    let mut scan = Scan::intersection(rt.alloc(), left, right).map_err(|_| AllocError)?;
+    Ok(scan.take_into(room))
 }
 
 /// The multiples of a number in the row.

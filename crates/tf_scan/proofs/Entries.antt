@@ -36,7 +36,7 @@ lt_is t u = either (nat_lt t u) (nat_eq t u)
 pub below_is : (v t u : ℕ) → is_lt (key_cmp (key_of v t) (key_of v u)) ≡ nat_lt t u
 below_is v t u = ap is_lt (same_value v t u) ∙ lt_is t u
 
-above_is : (v t u : ℕ) → is_gt (key_cmp (key_of v t) (key_of v u)) ≡ nat_lt u t
+pub above_is : (v t u : ℕ) → is_gt (key_cmp (key_of v t) (key_of v u)) ≡ nat_lt u t
 above_is v t u = is_gt_is key_cmp keys_total (key_of v t) (key_of v u) ∙ below_is v u t
 
 -- ---- entries of rows by their first row

@@ -12,4 +12,5 @@ pub mod Taking
 pub mod Across
 pub mod Turns
 pub mod Moves
+pub mod Keys
 pub mod Runs

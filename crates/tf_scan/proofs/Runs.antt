@@ -1,9 +1,9 @@
 -- Runs of rows that one table alone has next.
-use Rattle.std.proofs.Common.{◌≡◌, ℕ, ◌+◌, ◌<◌, ◌≤◌, List, [], ◌∷◌, ◌++◌, Option, Some, None, Bool, true, false, cond, refl, sym, ◌∙◌, ap, subst, arith, length, set, get_or}
+use Rattle.std.proofs.Common.{◌≡◌, ℕ, ◌<◌, ◌≤◌, List, [], ◌∷◌, ◌++◌, Option, Some, None, true, refl, sym, ◌∙◌, ap, subst, arith, length, set, get_or}
 use Rattle.std.specs.Prelude.{is_some}
 use Rattle.std.specs.List.{AllByRecursion, AllZip}
-use Rattle.std.specs.Option.{option_copied, option_flatten}
-use Rattle.std.proofs.lemmas.List.{append-nil, append_assoc, get_or-set_same, length-set, set-set, set-get_or}
+use Rattle.std.specs.Option.{option_flatten}
+use Rattle.std.proofs.lemmas.List.{append_assoc, get_or-set_same, length-set, set-set, set-get_or}
 use denote.Ref.{Bor}
 use Rattle.tf_table.specs.declared.key.Key.{Key}
 use Rattle.tf_table.specs.Content.{entry_at, values_of}
@@ -15,16 +15,15 @@ use Rattle.tf_scan.specs.declared.place.Front.{Front}
 use Rattle.tf_scan.specs.declared.place.Place.{Place}
 use Rattle.tf_scan.specs.declared.place.Place.TheVariants.{Closed, Open, End}
 use Rattle.tf_scan.specs.Prefix.{has_timestamp, prefix_of}
-use Rattle.tf_scan.specs.Place.{rows_left, lists_left, nearest_in, nearest_of, nearer, is_past, IsHead, IsPlace, HasRows, Takes}
+use Rattle.tf_scan.specs.Place.{IsTaken, rows_left, lists_left, nearest_in, nearest_of, nearer, is_past, IsHead, IsPlace, HasRows, Takes}
 use Rattle.tf_scan.specs.Turn.{nearest_but}
-use Rattle.tf_scan.specs.Run.{IsBehind, IsStep, AreTaken, AreWritten, WritesRun, WritesPrefix}
+use Rattle.tf_scan.specs.Run.{IsBehind, IsStep, AreTaken, AreFirst, AreWritten, WritesRows, WritesRun, WritesPrefix}
 use Rattle.tf_scan.proofs.Order.{before-asym}
-use Rattle.tf_scan.proofs.Members.{false_true}
 use Rattle.tf_scan.proofs.Entries.{entry-here}
 use Rattle.tf_scan.proofs.Taking.{has-some, has-none, is_opened, head-takes}
 use Rattle.tf_scan.proofs.Across.{each-at, takes-right, taken-first, taken-pass}
 use Rattle.tf_scan.proofs.Turns.{nearest-parts, at-place, others-stay, takes-one, entry-one}
-use Rattle.tf_scan.proofs.Moves.{written-none, written-more}
+use Rattle.tf_scan.proofs.Moves.{written-none, written-both}
 
 -- ---- the timestamps of rows with a value
 
@@ -37,50 +36,52 @@ live-append [] more = refl
 live-append ((k, None) ∷ rows) more = live-append rows more
 live-append ((k, Some x) ∷ rows) more = ap (λ (ts : List ℕ). k.timestamp ∷ ts) (live-append rows more)
 
--- ---- a row more
+-- ---- more rows
+
+-- a row as one by reference
+abbrev shown : {V : Type 0} → ℕ × ℕ → Key × Option V → Bor Key × Option (Bor V)
+shown p (k, None) = (record { ref_ptr = p; now = k }, None)
+shown p (k, Some x) = (record { ref_ptr = p; now = k }, Some record { ref_ptr = p; now = x })
+
+seen-shown : {V : Type 0} (p : ℕ × ℕ) (row : Key × Option V) → seen (shown p row) ≡ row
+seen-shown p (k, None) = refl
+seen-shown p (k, Some x) = refl
 
 module _ {V A : Type 0} (d : Direction) (until : Option ℕ) where
-  taken-more : (rows : List (Key × Option V)) (row : Key × Option V) (old mid new : Place V A) → AreTaken d until rows old mid → IsStep d until row mid new → AreTaken d until (rows ++ row ∷ []) old new
-  taken-more [] row old mid new a e = (new, subst (λ (p : Place V A). IsStep d until row p new) a e, refl)
-  taken-more (r ∷ rows) row old mid new a e = (a.0, a.1, taken-more rows row a.0 mid new a.2 e)
+  taken-both : (rows more : List (Key × Option V)) (old mid new : Place V A) → AreTaken d until rows old mid → AreTaken d until more mid new → AreTaken d until (rows ++ more) old new
+  taken-both [] more old mid new a b = subst (λ (p : Place V A). AreTaken d until more p new) a b
+  taken-both (r ∷ rows) more old mid new a b = (a.0, a.1, taken-both rows more a.0 mid new a.2 b)
+
+  -- the next row of a place, and the first of the others
+  taken-run : (rows left : List (Key × Option V)) (front : Front V A) (new : Place V A) (row : Key × Option V) → row ≡ seen front.row → is_past d row.0.timestamp until ≡ true → AreFirst (λ (r : Key × Option V). r.0.timestamp) d until rows front.others left → IsBehind d left new
+      → AreTaken d until (row ∷ rows) (Open front) new
+  taken-run [] left front new row e p a b = (new, (e, p, subst (λ (rs : List (Key × Option V)). IsBehind d rs new) a b), refl)
+  taken-run (r ∷ rows) left front new row e p a b =
+      let bor = shown front.row.0.ref_ptr r in
+      let same = seen-shown front.row.0.ref_ptr r in
+      let next : Front V A = record { row = bor; others = a.0 } in
+      (Open next, (e, p, subst (λ (s : Key × Option V). IsTaken d s front.others a.0) (sym same) a.1), taken-run rows left next new r (sym same) a.2 a.3 b)
 
   pub writes-none : (i : ℕ) (p : Place V A) (xs : List ℕ) → i ≤ length xs → WritesRun d until i i p p xs xs
   writes-none i p xs l = record { rows = []; taken = refl; written = written-none i xs l }
 
-  module _ (from to : ℕ) (old mid new : Place V A) (xs ys : List ℕ) (w : WritesRun d until from to old mid xs ys) (k : Key) where
-    -- one with a value
-    writes-live : (x : V) → IsStep d until (k, Some x) mid new → to < length xs → WritesRun d until from (to + 1) old new xs (set ys to k.timestamp)
-    writes-live x e l =
-        record {
-          rows = w.rows ++ (k, Some x) ∷ [];
-          taken = taken-more w.rows (k, Some x) old mid new w.taken e;
-          written = subst (λ ts. AreWritten ts from (to + 1) xs (set ys to k.timestamp)) (sym (live-append w.rows ((k, Some x) ∷ []))) (written-more (timestamps (values_of w.rows)) from to xs ys w.written k.timestamp l);
-        }
-
-    -- a tombstone
-    writes-dead : IsStep d until (k, None) mid new → WritesRun d until from to old new xs ys
-    writes-dead e =
-        record {
-          rows = w.rows ++ (k, None) ∷ [];
-          taken = taken-more w.rows (k, None) old mid new w.taken e;
-          written = subst (λ ts. AreWritten ts from to xs ys) (sym (live-append w.rows ((k, None) ∷ []) ∙ append-nil (timestamps (values_of w.rows)))) w.written;
-        }
-
-    -- either, with what was done for it
-    pub writes-step : (o : Option (Bor V)) → IsStep d until (k, option_copied o) mid new → to < length xs → (b : Bool) → b ≡ is_some o → (zs : List ℕ) (n : ℕ) → zs ≡ cond b (set ys to k.timestamp) ys → n ≡ cond b (to + 1) to → WritesRun d until from n old new xs zs
-    writes-step None e l b is zs n f g =
-        let ez : ys ≡ zs = sym (f ∙ ap (λ c. cond c (set ys to k.timestamp) ys) is) in
-        let en : to ≡ n = sym (g ∙ ap (λ c. cond c (to + 1) to) is) in
-        subst (λ m. WritesRun d until from m old new xs zs) en (subst (λ (us : List ℕ). WritesRun d until from to old new xs us) ez (writes-dead e))
-    writes-step (Some x) e l b is zs n f g =
-        let ez : set ys to k.timestamp ≡ zs = sym (f ∙ ap (λ c. cond c (set ys to k.timestamp) ys) is) in
-        let en : to + 1 ≡ n = sym (g ∙ ap (λ c. cond c (to + 1) to) is) in
-        subst (λ m. WritesRun d until from m old new xs zs) en (subst (λ (us : List ℕ). WritesRun d until from (to + 1) old new xs us) ez (writes-live x.now e l))
+  pub writes-more : (from to mid end : ℕ) (old new : Place V A) (front : Front V A) (left : List (Key × Option V)) (xs ys us zs : List ℕ) → WritesRun d until from to old (Open front) xs ys → is_past d front.row.0.now.timestamp until ≡ true → AreWritten (timestamps (values_of (seen front.row ∷ []))) to mid ys us
+      → WritesRows d until mid end front.others left us zs → IsBehind d left new → WritesRun d until from end old new xs zs
+  writes-more from to mid end old new front left xs ys us zs w p own v b =
+      let row = seen front.row in
+      let live = λ (rows : List (Key × Option V)). timestamps (values_of rows) in
+      record {
+        rows = w.rows ++ row ∷ v.rows;
+        taken = taken-both w.rows (row ∷ v.rows) old (Open front) new w.taken (taken-run v.rows left front new row refl p v.taken b);
+        written =
+            subst (λ ts. AreWritten ts from end xs zs) (ap (λ (ts : List ℕ). live w.rows ++ ts) (sym (live-append (row ∷ []) v.rows)) ∙ sym (live-append w.rows (row ∷ v.rows)))
+            (written-both (live w.rows) from to xs ys w.written (live (row ∷ []) ++ live v.rows) end zs (written-both (live (row ∷ [])) to mid ys us own (live v.rows) end zs v.written));
+      }
 
 -- ---- a step of one place
 
 module _ {V A : Type 0} (d : Direction) (v : ℕ) (until : Option ℕ) where
-  behind-rows : (front : Front V A) (new : Place V A) → IsHead d v (seen front.row) front.others → IsBehind d front new → HasRows d v front.others new
+  behind-rows : (front : Front V A) (new : Place V A) → IsHead d v (seen front.row) front.others → IsBehind d front.others new → HasRows d v front.others new
   behind-rows front (Closed table span) h e = absurd e
   behind-rows front (Open next) h e = has-some d v front.others next h.others e
   behind-rows front End h e = has-none d v front.others e

@@ -156,7 +156,7 @@ module _ {E : Type 0} where
   head-behind Rising v key r rows h = head-filter Rising v (λ s. not (is_lt (key_cmp s.0 key))) r rows h
   head-behind Falling v key r rows h = head-filter Falling v (λ s. not (is_gt (key_cmp s.0 key))) r rows h
 
-between : (o a b : Ordering) → not (is_lt (ordering_then o a)) ≡ true → not (is_gt (ordering_then o b)) ≡ true → o ≡ Equal
+pub between : (o a b : Ordering) → not (is_lt (ordering_then o a)) ≡ true → not (is_gt (ordering_then o b)) ≡ true → o ≡ Equal
 between Less a b e f = false_true e
 between Equal a b e f = refl
 between Greater a b e f = false_true f

@@ -83,8 +83,8 @@ IsPlace d value (Closed table span) = IsRising key_cmp table.now
 IsPlace d value (Open front) = IsHead d value (seen front.row) front.others
 IsPlace d value End = Unit {0}
 
--- the row was taken from the side of the rows that comes first
-abbrev pub IsTaken : {E : Type 0} → Direction → Key × E → List (Key × E) → List (Key × E) → Type 0
+-- the row, or the key, was taken from the side of these that comes first
+abbrev pub IsTaken : {X : Type 0} → Direction → X → List X → List X → Type 0
 IsTaken Rising row old new = old ≡ row ∷ new
 IsTaken Falling row old new = old ≡ new ++ row ∷ []
 

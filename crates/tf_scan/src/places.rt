@@ -17,7 +17,8 @@ use std::alloc::Allocator;
 
 /// Takes out the first timestamp at which the tables' content has the value.
 ///
-/// Where one place alone has the next timestamp it looks at that one. Else it goes over all places twice.
+/// As long as one place alone has the next timestamp it looks at that one. Then it goes over all places once to find whose
+/// turn it is, and where several have the next timestamp, twice more.
 pub(crate) fn next<V, A: Allocator>(
     direction: Direction,
     value: u128,
@@ -142,12 +143,31 @@ fn take<'r, V, A: Allocator>(
     ensures taken { AllZip (Takes direction value timestamp) places.old places.new }
     ensures turn { IsTurn direction turn.new places.new }
 {
+    *turn = turn_at(direction, timestamp, places, *turn);
     if turn.has(direction, timestamp) && turn.place < places.len() {
         return places[turn.place].take(direction, value, timestamp);
     }
     let entry = take_all(direction, value, timestamp, places);
     *turn = Turn::of(direction, places);
     entry
+}
+
+/// The turn at this timestamp: a new one, unless the old one lasts so long.
+#[inline]
+fn turn_at<V, A: Allocator>(
+    direction: Direction,
+    timestamp: u64,
+    places: &[Place<'_, V, A>],
+    turn: Turn,
+) -> Turn
+    requires { IsTurn direction turn places.now }
+    ensures { IsTurn direction result places.now }
+{
+    if turn.has(direction, timestamp) {
+        turn
+    } else {
+        Turn::of(direction, places)
+    }
 }
 
 /// Takes the rows at this timestamp out of all places, and tells the entry of the newest table that has one. No row comes

@@ -77,9 +77,9 @@ impl<'r, V, A: Allocator> Leaf for Prefix<'r, V, A> {
         self.direction
     }
 
-    /// As long as the timestamps of one table come before those of all others, it looks at that one's place alone. Else
-    /// it goes over the places twice for each timestamp that a table has. Of the tables it reads those alone whose
-    /// nearest timestamp this is.
+    /// As long as the timestamps of one table come before those of all others, it looks at that one's place alone. Then
+    /// it goes over the places once, and where several tables have the timestamp, twice more. Of the tables it reads
+    /// those alone whose nearest timestamp this is.
     fn next(&mut self) -> Option<u64> {
         places::next(
             self.direction,
@@ -102,8 +102,9 @@ impl<'r, V, A: Allocator> Leaf for Prefix<'r, V, A> {
         );
     }
 
-    /// As long as the timestamps of one table come before those of all others, it goes over that one's rows alone. Else
-    /// it goes over the places twice for each timestamp that a table has.
+    /// As long as the timestamps of one table come before those of all others, it goes over that one's rows alone, and
+    /// over their keys alone where they have one value, which is stored once. Then it goes over the places as `next`
+    /// does.
     fn take_into(&mut self, out: &mut [u64]) -> usize {
         places::take_into(
             self.direction,

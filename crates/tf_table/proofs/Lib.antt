@@ -1,3 +1,4 @@
+pub mod Columns
 pub mod Combine
 pub mod Determined
 pub mod Filters

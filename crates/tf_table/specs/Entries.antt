@@ -1,5 +1,5 @@
 -- What the entries of a table's rows are, in either form.
-use Rattle.std.specs.Prelude.{◌≡◌, ℕ, ◌<◌, List, Option, None, length, replicate, vec_capacity}
+use Rattle.std.specs.Prelude.{◌≡◌, ℕ, ◌<◌, ◌≤◌, List, Option, None, length, replicate, vec_capacity}
 use Rattle.std.specs.List.{All}
 use Rattle.tf_table.specs.declared.entries.Entries.{Entries}
 use Rattle.tf_table.specs.declared.entries.Entries.TheVariants.{Same, Each}
@@ -13,6 +13,11 @@ entries_of n (Each entries) = entries.items
 abbrev pub HasEntry : {V A : Type 0} → ℕ → Entries V A → Type 0
 HasEntry place (Same entry) = Unit {0}
 HasEntry place (Each entries) = place < length entries.items
+
+-- there are entries up to the place, whatever the number of rows
+abbrev pub HasEntries : {V A : Type 0} → ℕ → Entries V A → Type 0
+HasEntries to (Same entry) = Unit {0}
+HasEntries to (Each entries) = to ≤ length entries.items
 
 -- none of the entries is a value
 abbrev pub HaveNoValue : {V : Type 0} → List (Option V) → Type 0

@@ -1,5 +1,6 @@
 pub mod Key
 pub mod Entries
+pub mod Column
 pub mod Span
 pub mod Filter
 pub mod Rows

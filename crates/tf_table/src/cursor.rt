@@ -1,12 +1,13 @@
 //! A walk over some rows of a table.
 ghost use Rattle.std.specs.Prelude.{◌≡◌, ◌-◌, ◌≤◌, take, drop, length};
 ghost use Rattle.std.specs.Iterator.{YieldsFirstBy, YieldsLastBy, item_count};
-ghost use Rattle.tf_btree.specs.Rows.{rows_from, rows_upto};
+ghost use Rattle.tf_btree.specs.Rows.{IsRising, rows_from, rows_upto};
 ghost use Rattle.tf_table.specs.Key.{key_cmp};
 ghost use Rattle.tf_table.specs.Merge.{seen};
+ghost use Rattle.tf_table.specs.Column.{AreRuns};
 
 use crate::search::{Start, count_below, count_upto, part};
-use crate::{Key, Row, Sealed};
+use crate::{Column, Key, Row, Sealed};
 use std::alloc::Allocator;
 use std::marker::Model;
 
@@ -88,6 +89,17 @@ impl<V, A: Allocator> Sealed<V, A> {
     {
         from + count_upto(part(&self.keys, from, to), key, start)
     }
+
+    /// Their keys and their entries.
+    #[inline]
+    fn runs(&self, from: usize, to: usize) -> (&[Key], Column<'_, V>)
+        requires ordered { from ≤ to }
+        requires within { to ≤ length self.now }
+        ensures rows { AreRuns result.0.now result.1 (take (to - from) (drop from self.now)) }
+        ensures rising { IsRising key_cmp (take (to - from) (drop from self.now)) }
+    {
+        (part(&self.keys, from, to), self.entries.column(from, to))
+    }
 }
 
 impl<'a, V, A: Allocator> Cursor<'a, V, A> {
@@ -108,6 +120,37 @@ impl<'a, V, A: Allocator> Cursor<'a, V, A> {
     {
         let table = self.table;
         self.to = table.last_upto(self.from, self.to, key, Start::Back);
+    }
+
+    /// The rows that are still to come as they lie in the table: their keys, which rise, and their entries.
+    ///
+    /// It takes constant time and no memory, and reads no row.
+    #[inline]
+    pub fn runs(&self) -> (&'a [Key], Column<'a, V>)
+        ensures rows { AreRuns result.0.now result.1 self.now }
+        // No key comes twice.
+        ensures rising { IsRising key_cmp self.now }
+    {
+        let table = self.table;
+        table.runs(self.from, self.to)
+    }
+
+    /// Passes over so many rows from the front on.
+    #[inline]
+    pub fn pass(&mut self, count: usize)
+        requires { count ≤ length self.old }
+        ensures { self.new ≡ drop count self.old }
+    {
+        self.from += count;
+    }
+
+    /// The same from the back.
+    #[inline]
+    pub fn pass_back(&mut self, count: usize)
+        requires { count ≤ length self.old }
+        ensures { self.new ≡ take (length self.old - count) self.old }
+    {
+        self.to -= count;
     }
 }
 

@@ -1,8 +1,10 @@
 //! The entries of a table's rows, apart from their keys.
-ghost use Rattle.std.specs.Prelude.{◌≡◌, ◌↔◌, ℕ, ◌+◌, ◌<◌, [], ◌∷◌, ◌++◌, length, replicate, Option, None, true, IsTrue, IfOk, OnOk, slice_index_or, vec_capacity};
+ghost use Rattle.std.specs.Prelude.{◌≡◌, ◌↔◌, ℕ, ◌+◌, ◌-◌, ◌<◌, ◌≤◌, [], ◌∷◌, ◌++◌, length, replicate, take, drop, Option, None, true, IsTrue, IfOk, OnOk, slice_index_or, vec_capacity};
 ghost use Rattle.std.specs.Option.{option_copied};
-ghost use Rattle.tf_table.specs.Entries.{entries_of, HasEntry, IsStored};
+ghost use Rattle.tf_table.specs.Entries.{entries_of, HasEntry, HasEntries, IsStored};
+ghost use Rattle.tf_table.specs.Column.{column_of};
 
+use crate::Column;
 use crate::fitted::fitted;
 use std::alloc::{AllocError, Allocator};
 
@@ -66,6 +68,19 @@ impl<V, A: Allocator> Entries<V, A> {
         match self {
             Entries::Same(entry) => entry,
             Entries::Each(entries) => &entries[place],
+        }
+    }
+
+    /// Those from one place up to another.
+    #[inline]
+    pub(crate) fn column(&self, from: usize, to: usize) -> Column<'_, V>
+        requires ordered { from ≤ to }
+        requires within { HasEntries to self.now }
+        ensures { (rows : ℕ) → to ≤ rows → column_of (to - from) result ≡ take (to - from) (drop from (entries_of rows self.now)) }
+    {
+        match self {
+            Entries::Same(entry) => Column::Same(entry.as_ref()),
+            Entries::Each(entries) => Column::Each(&entries[from..to]),
         }
     }
 }

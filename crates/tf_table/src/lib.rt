@@ -4,6 +4,7 @@
 //! A row is a key with a value, or with a tombstone, which says that the key is absent.
 #![tactic(auto)]
 
+mod column;
 mod cursor;
 mod draft;
 mod entries;
@@ -23,6 +24,7 @@ mod span;
 #[cfg(test)]
 mod tests;
 
+pub use column::Column;
 pub use cursor::Cursor;
 pub use entries::Repeats;
 pub use key::Key;

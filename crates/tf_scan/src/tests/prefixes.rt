@@ -1,5 +1,5 @@
 //! Prefixes of rows over several tables, beside the plain filter.
-ghost use Rattle.std.specs.Prelude.{◌≡◌, ◌+◌, ◌<◌, length, OnOk, IfOk};
+ghost use Rattle.std.specs.Prelude.{◌≡◌, ◌+◌, ◌<◌, ◌≤◌, length, OnOk, IfOk};
 ghost use Rattle.tf_manifest.specs.Row.{weight};
 
 use super::Multiples;
@@ -96,17 +96,62 @@ fn table(alloc: Global, t: u64) -> Result<Sealed<(), Global>, Fail> {
     Ok(rows.seal(alloc)?)
 }
 
-/// The row.
+/// A table of a hundred timestamps, which follow those of table `t` - 1.
+fn table_in_turn(alloc: Global, t: u64) -> Result<Sealed<(), Global>, Fail> {
+    let mut rows: Log<(), Global> = Log::new_in(alloc);
+    for place in 0..100u64 {
+        let key = Key {
+            value: 1,
+            timestamp: t.saturating_mul(100).saturating_add(place),
+        };
+        if rows.find(&key).is_none() {
+            let _ = rows.put(key, Some(()))?;
+        }
+    }
+    Ok(rows.seal(alloc)?)
+}
+
+/// Which tables a row has.
+#[derive(Clone, Copy)]
+pub(super) enum Layout {
+    /// Those over which the lists are spread, and which cover each other's rows.
+    Spread,
+    /// Twenty that follow each other in time.
+    InTurn,
+}
+
+impl Layout {
+    /// How many tables there are.
+    fn tables(self) -> u64
+        ensures { result ≤ 20 }
+    {
+        match self {
+            Layout::Spread => TABLES,
+            Layout::InTurn => 20,
+        }
+    }
+
+    /// Table `t`, counted from the oldest.
+    fn table(self, alloc: Global, t: u64) -> Result<Sealed<(), Global>, Fail> {
+        match self {
+            Layout::Spread => table(alloc, t),
+            Layout::InTurn => table_in_turn(alloc, t),
+        }
+    }
+}
+
+/// A row.
 pub(super) fn row<'r, N: Naming, R: Wait>(
     rt: &R,
     alloc: Global,
     registry: &'r Registry<(), Global>,
+    layout: Layout,
 ) -> Result<Tables<'r, (), Global, N>, Fail>
     requires here { registry.now ≡ N.shelf 4 }
 {
     let mut tables = Tables::new(registry);
-    for t in 0..TABLES {
-        add_table(rt, registry, &mut tables, table(alloc, t)?)?;
+    for t in 0..layout.tables() {
+        add_table(rt, registry, &mut tables, layout.table(alloc, t)?)?;
     }
     Ok(tables)
 }
@@ -152,7 +197,7 @@ fn joins_of_prefixes<N: Naming>(
 ) -> Result<(), Fail>
     requires here { registry.now ≡ N.shelf 4 }
 {
-    let tables = row::<N, _>(rt, rt.alloc(), registry)?;
+    let tables = row::<N, _>(rt, rt.alloc(), registry, Layout::Spread)?;
     for left in LISTS {
         for right in LISTS {
             assert_joins(rt, &tables, left, right, NEVER)?;
@@ -172,29 +217,51 @@ fn joins_of_prefixes_are_the_plain_filter(rt: HostRuntime) -> Result<(), Fail> {
     joins_of_prefixes::<Brand>(&rt, &registry)
 }
 
-/// Tables of a hundred timestamps each, that follow each other.
-pub(super) fn tables_in_turn<'r, N: Naming, R: Wait>(
-    rt: &R,
-    alloc: Global,
-    registry: &'r Registry<(), Global>,
-) -> Result<Tables<'r, (), Global, N>, Fail>
-    requires here { registry.now ≡ N.shelf 4 }
-{
-    let mut tables = Tables::new(registry);
-    for t in 0..20u64 {
-        let mut rows: Log<(), Global> = Log::new_in(alloc);
-        for place in 0..100u64 {
-            let key = Key {
-                value: 1,
-                timestamp: 100 * t + place,
-            };
-            if rows.find(&key).is_none() {
-                let _ = rows.put(key, Some(()))?;
-            }
+/// How many tables of a prefix weren't searched, and may still be.
+fn count_closed(prefix: &Prefix<'_, (), Global>) -> u64 {
+    let mut closed = 0u64;
+    for place in prefix.places.as_slice() {
+        if matches!(place, Place::Closed(..)) {
+            closed = closed.saturating_add(1);
         }
-        add_table(rt, registry, &mut tables, rows.seal(alloc)?)?;
     }
-    Ok(tables)
+    closed
+}
+
+/// Ten timestamps are read one by one.
+fn read_each(prefix: &mut Prefix<'_, (), Global>, room: &mut [u64; 10]) -> Result<(), Fail> {
+    for place in 0..10usize {
+        room[place] = prefix.next().ok_or("too few timestamps")?;
+    }
+    Ok(())
+}
+
+/// Ten timestamps of twenty tables search two of them at most, whichever way they are read.
+fn assert_few_searched<N: Naming>(
+    rt: &impl Abort,
+    tables: &Tables<'_, (), Global, N>,
+    direction: Direction,
+    is_moved: bool,
+) -> Result<(), Fail> {
+    let mut prefix = Prefix::new(tables, 1, direction);
+    prefix.seek(1_095);
+    let closed = count_closed(&prefix);
+    let mut room = [0u64; 10];
+    if is_moved {
+        assert_eq!(rt; prefix.take_into(&mut room), 10);
+    } else {
+        read_each(&mut prefix, &mut room)?;
+    }
+    for place in 0..10u64 {
+        let wanted = match direction {
+            Direction::Rising => 1_095 + place,
+            Direction::Falling => 1_095 - place,
+        };
+        assert_eq!(rt; room.get(place as usize).copied(), Some(wanted));
+    }
+    let searched = closed.saturating_sub(count_closed(&prefix));
+    assert!(rt; searched <= 2, "{searched} tables were searched");
+    Ok(())
 }
 
 fn few_timestamps<N: Naming>(
@@ -203,24 +270,11 @@ fn few_timestamps<N: Naming>(
 ) -> Result<(), Fail>
     requires here { registry.now ≡ N.shelf 4 }
 {
-    let tables = tables_in_turn::<N, _>(rt, rt.alloc(), registry)?;
+    let tables = row::<N, _>(rt, rt.alloc(), registry, Layout::InTurn)?;
     for direction in [Direction::Rising, Direction::Falling] {
-        let mut prefix = Prefix::new(&tables, 1, direction);
-        prefix.seek(1_095);
-        for place in 0..10u64 {
-            let timestamp = match direction {
-                Direction::Rising => 1_095 + place,
-                Direction::Falling => 1_095 - place,
-            };
-            assert_eq!(rt; prefix.next(), Some(timestamp));
+        for is_moved in [false, true] {
+            assert_few_searched(rt, &tables, direction, is_moved)?;
         }
-        let mut searched = 0u64;
-        for place in prefix.places.as_slice() {
-            if matches!(place, Place::Open(_)) {
-                searched = searched.saturating_add(1);
-            }
-        }
-        assert!(rt; searched <= 2, "{searched} tables were searched");
     }
     Ok(())
 }
@@ -238,7 +292,7 @@ fn count_refusals<N: Naming>(
 ) -> Result<usize, Fail>
     requires here { registry.now ≡ N.shelf 4 }
 {
-    let tables = tables_in_turn::<N, _>(rt, rt.alloc(), registry)?;
+    let tables = row::<N, _>(rt, rt.alloc(), registry, Layout::InTurn)?;
     for tries in 0..64usize {
         let heap = LocalHeap::new(rt.alloc(), tries * 512)?;
         let left = Scan::leaf(Prefix::new(&tables, 1, Direction::Rising));

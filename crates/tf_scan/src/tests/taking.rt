@@ -1,7 +1,7 @@
 //! Timestamps that are moved into a slice, beside lists that were made apart.
 ghost use Rattle.std.specs.Prelude.{◌≡◌};
 
-use super::prefixes::{LISTS, row, tables_in_turn, value_of};
+use super::prefixes::{LISTS, Layout, row, value_of};
 use super::{Multiples, list_of, scan_of};
 use crate::{Direction, Leaf, Prefix, Scan};
 use std::alloc::{AllocError, Allocator, Global};
@@ -86,7 +86,7 @@ fn prefixes_in_parts<N: Naming>(
 ) -> Result<(), Fail>
     requires here { registry.now ≡ N.shelf 4 }
 {
-    let tables = row::<N, _>(rt, rt.alloc(), registry)?;
+    let tables = row::<N, _>(rt, rt.alloc(), registry, Layout::Spread)?;
     for list in LISTS {
         for size in [0, 1, 2, 4_999, 5_000, 5_001] {
             let mut room = vec![in rt.alloc(); 0; size]?;
@@ -147,7 +147,7 @@ fn tables_in_parts<N: Naming>(
 ) -> Result<(), Fail>
     requires here { registry.now ≡ N.shelf 4 }
 {
-    let tables = tables_in_turn::<N, _>(rt, rt.alloc(), registry)?;
+    let tables = row::<N, _>(rt, rt.alloc(), registry, Layout::InTurn)?;
     for from in [0, 99, 100, 1_095, 1_999] {
         for size in [1, 99, 100, 101, 2_000] {
             let mut room = vec![in rt.alloc(); 0; size]?;

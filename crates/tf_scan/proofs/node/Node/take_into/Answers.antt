@@ -1,4 +1,4 @@
-use Rattle.std.proofs.Common.{◌≡◌, ◌++◌, sym, ◌∙◌, ap, subst, length, min, take, drop}
+use Rattle.std.proofs.Common.{◌++◌, sym, ◌∙◌, ap, subst, length, min, take, drop}
 use Rattle.tf_scan.specs.Part.{Part}
 use Rattle.tf_scan.specs.Order.{IsInOrder}
 use Rattle.tf_scan.specs.Node.{with_head, height_of, IsKind, IsHead}
