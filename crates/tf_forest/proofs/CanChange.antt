@@ -77,7 +77,7 @@ can_row r changes parts ready = by_kind (is_tree r) refl where
   by_kind false log = can_log r changes parts ready.of (ready.log log).0 (ready.log log).1
 
 -- rows stand at their places, one after another
-abbrev StandFrom : ℕ → List Row → Type 0
+abbrev pub StandFrom : ℕ → List Row → Type 0
 StandFrom n [] = ⊤
 StandFrom n (r ∷ rows) = (place_of r ≡ n) × StandFrom (suc n) rows
 

@@ -217,10 +217,10 @@ row_back = elim [
   | row.History ↦ refl
 ]
 
-apart_by : (r other : Row) → other ≢ r → kind_of other ≢ kind_of r
+pub apart_by : (r other : Row) → other ≢ r → kind_of other ≢ kind_of r
 apart_by r other h e = h (sym (row_back other) ∙ ap row_by e ∙ row_back r)
 
-stamp_apart : (u other : StampRow) → kind.Stamp other ≢ kind.Stamp u → stamp_index other ≢ stamp_index u
+pub stamp_apart : (u other : StampRow) → kind.Stamp other ≢ kind.Stamp u → stamp_index other ≢ stamp_index u
 stamp_apart stamp.AccountIds stamp.AccountIds h e = h refl
 stamp_apart stamp.AccountIds stamp.ExpiryEntries h e = absurd (omega (arith, e))
 stamp_apart stamp.ExpiryEntries stamp.AccountIds h e = absurd (omega (arith, e))
@@ -246,7 +246,7 @@ unit_back = elim [
   | unit.Expiry ↦ refl
 ]
 
-unit_apart : (u other : UnitRow) → kind.Unit other ≢ kind.Unit u → unit_index other ≢ unit_index u
+pub unit_apart : (u other : UnitRow) → kind.Unit other ≢ kind.Unit u → unit_index other ≢ unit_index u
 unit_apart u other h e = h (ap kind.Unit (sym (unit_back other) ∙ ap unit_by e ∙ unit_back u))
 
 stamp_within : (u : StampRow) → stamp_index u < 2

@@ -25,3 +25,5 @@ pub mod BelowFloors
 pub mod Added
 pub mod Sealed
 pub mod SealedRows
+pub mod OneRow
+pub mod PublishRows

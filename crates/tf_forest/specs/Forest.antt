@@ -63,10 +63,11 @@ pub record IsCut (old new : List Entry) (count : ℕ) : Type 0 where
   pub is : old ≡ new ++ undone
   pub many : length undone ≡ count
 
--- what contracts see of a forest: its journal, the sealed tables of its rows, the clock, and how many entries stand for
--- good
+-- what contracts see of a forest: its journal, its rows' sealed tables, how many more a publish would push, the clock, and
+-- how many entries stand for good
 pub record View : Type 0 where
   pub journal : List Entry
   pub sealed : manifest.View
+  pub needed : ℕ
   pub clock : ℕ
   pub kept : ℕ

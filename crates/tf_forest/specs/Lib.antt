@@ -11,4 +11,5 @@ pub mod Nest
 pub mod Floors
 pub mod Forest
 pub mod SealedRow
+pub mod Publish
 pub mod Due

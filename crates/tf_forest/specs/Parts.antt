@@ -82,6 +82,10 @@ sealed_in view r = map (seen_rows (value_by (kind_of r))) (lists_of (tables_by v
 abbrev pub parts_of : Entries → View → Parts
 parts_of fresh view r = record { fresh = fresh r; below = sealed_in view r }
 
+-- the entries of rows' mutable tables
+abbrev pub fresh_in : Parts → Entries
+fresh_in rows r = (rows r).fresh
+
 -- a mutable table has an entry of a key, which had this one before; each other is as it was
 pub record PutsEntry (r : Row) (key : Key) (entry : Option Value) (before : Option (Option Value)) (old new : Entries) : Type 0 where
   pub here : new r ≡ with_row key_cmp key entry (old r)

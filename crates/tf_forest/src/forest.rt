@@ -3,6 +3,8 @@ ghost use Rattle.std.specs.Prelude.{◌≡◌, ◌≤◌, [], length, take, OnEr
 ghost use Rattle.tf_forest.specs.Floors.{IsFloor};
 ghost use Rattle.tf_forest.specs.Forest.{ShowTheirJournal, journal_in};
 ghost use Rattle.tf_forest.specs.Nest.{AreEmpty};
+ghost use Rattle.tf_forest.specs.Parts.{fresh_in};
+ghost use Rattle.tf_forest.specs.Publish.{tables_needed};
 ghost use Rattle.tf_journal.specs.declared.entry.Entry.{Entry};
 ghost use Rattle.tf_journal.specs.Journal.{IsUpTo, is_failed};
 ghost use Rattle.tf_journal.specs.Ledger.{CanGrow, IsAddition};
@@ -44,8 +46,10 @@ impl<S: AllRows + Drop, A: Allocator + Copy> Model for Forest<S, A> {
     ghost Value = { View };
 
     ghost use Rattle.tf_forest.specs.Forest.{IsForest, journal_in};
+    ghost use Rattle.tf_forest.specs.Parts.{fresh_in};
+    ghost use Rattle.tf_forest.specs.Publish.{tables_needed};
 
-    ghost view = { λ f. record { journal = journal_in (S.parts f.rows); sealed = S.sealed f.rows; clock = f.clock; kept = f.kept } };
+    ghost view = { λ f. record { journal = journal_in (S.parts f.rows); sealed = S.sealed f.rows; needed = tables_needed (fresh_in (S.parts f.rows)) (S.sealed f.rows); clock = f.clock; kept = f.kept } };
 
     ghost invariant = { λ f. IsForest S.has_row S.fits S.takes_any (S.parts f.rows) f.notes.items f.kept f.floors };
 }
@@ -78,6 +82,7 @@ impl<S: AllRows + Drop, A: Allocator + Copy> Forest<S, A> {
         ensures journal { journal_in (S.parts result.now) ≡ self.now.journal }
         ensures shows { ShowTheirJournal (S.parts result.now) }
         ensures kept { self.now.kept ≤ length self.now.journal }
+        ensures needed { tables_needed (fresh_in (S.parts result.now)) (S.sealed result.now) ≡ self.now.needed }
         ensures sealed { S.sealed result.now ≡ self.now.sealed }
     {
         &self.rows

@@ -24,6 +24,7 @@ mod look_ups;
 mod mutable_rows;
 mod mutable_tables;
 mod note;
+mod publish;
 mod row_change;
 mod row_set;
 mod rows;

@@ -1,13 +1,14 @@
 use Rattle.std.proofs.Common.{◌≡◌, ◌∙◌, List, [], ◌∷◌, ◌++◌, sym, ap, subst}
 use Rattle.tf_journal.specs.declared.entry.Entry.{Entry}
 use Rattle.tf_journal.specs.Ledger.{CanGrow}
-use Rattle.tf_forest.specs.Parts.{Parts}
+use Rattle.tf_forest.specs.Parts.{Parts, fresh_in}
 use Rattle.tf_forest.specs.declared.found.Found.{Found}
 use Rattle.tf_forest.specs.declared.change.Step.{Step}
 use Rattle.tf_forest.specs.Changes.{CanChangeAll, all_changed}
 use Rattle.tf_forest.specs.Edits.{found_for}
 use Rattle.tf_forest.specs.Forest.{IsForest, View, journal_in}
 use Rattle.tf_forest.specs.Nest.{LogsHaveValues}
+use Rattle.tf_forest.specs.Publish.{tables_needed}
 use Rattle.tf_forest.specs.Range.{LeavesInRange}
 use Rattle.tf_manifest.specs.View.{View as Tables}
 use Rattle.tf_forest.proofs.CanChange.{can_any}
@@ -92,7 +93,7 @@ returns-in-Err-clause-addition g c = record {
 
 pub returns-in-Err-clause-err : goal.returns-in-Err-clause-err
 returns-in-Err-clause-err g c =
-    let seen : Parts → Tables → View = λ rows tables. record { journal = journal_in rows; sealed = tables; clock = c.self.inside.clock; kept = c.self.inside.kept } in
+    let seen : Parts → Tables → View = λ rows tables. record { journal = journal_in rows; sealed = tables; needed = tables_needed (fresh_in rows) tables; clock = c.self.inside.clock; kept = c.self.inside.kept } in
     ap (λ (rows : Parts). seen rows (g.S.RowSet.sealed c.add_entry.new.rows)) c.in-Err.ensures.err
     ∙ ap (λ (tables : Tables). seen (g.S.RowSet.parts c.self.inside.rows) tables) c.in-Err.ensures.sealed
     ∙ c.self.view_is
