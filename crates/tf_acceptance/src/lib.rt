@@ -1,11 +1,13 @@
-//! Tests that cross crates: worked scripts with what they print, and how runs end. There is no code
-//! here beside them.
+//! Tests that cross crates: worked scripts with what they print, how runs end, and that the forest and the plain ledger
+//! are one ledger. There is no code here beside them.
 #![tactic(auto)]
 
 #[cfg(test)]
 mod bytes;
 #[cfg(test)]
 mod endings;
+#[cfg(test)]
+mod forest;
 #[cfg(test)]
 mod rows;
 #[cfg(test)]

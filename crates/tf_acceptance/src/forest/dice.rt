@@ -1,0 +1,35 @@
+//! Numbers that look random, the same in each run.
+
+ghost use Rattle.std.specs.Prelude.{◌<◌, length};
+
+/// A source of numbers: a linear congruential generator, of which the high bits are used.
+#[derive(Drop)]
+pub struct Dice {
+    state: u64,
+}
+
+impl Dice {
+    pub fn new(seed: u64) -> Dice {
+        Dice { state: seed }
+    }
+
+    /// A number below so many, or 0 where that is 0.
+    pub fn below(&mut self, many: u32) -> u32
+        ensures { 0 < many → result < many }
+    {
+        self.state = self
+            .state
+            .wrapping_mul(6_364_136_223_846_793_005)
+            .wrapping_add(1_442_695_040_888_963_407);
+        let high = (self.state >> 33) as u32;
+        if many == 0 { 0 } else { high % many }
+    }
+
+    /// One of these: one that stands there twice comes twice as often.
+    pub fn one_of<T: Copy>(&mut self, all: &[T]) -> T
+        requires some { 0 < length all.now }
+        requires few { length all.now < 1000 }
+    {
+        all[self.below(all.len() as u32) as usize]
+    }
+}
