@@ -27,3 +27,4 @@ pub mod Sealed
 pub mod SealedRows
 pub mod OneRow
 pub mod PublishRows
+pub mod Refused

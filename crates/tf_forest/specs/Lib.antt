@@ -12,4 +12,5 @@ pub mod Floors
 pub mod Forest
 pub mod SealedRow
 pub mod Publish
+pub mod Unpublished
 pub mod Due

@@ -25,6 +25,7 @@ mod mutable_rows;
 mod mutable_tables;
 mod note;
 mod publish;
+mod publishing;
 mod row_change;
 mod row_set;
 mod rows;

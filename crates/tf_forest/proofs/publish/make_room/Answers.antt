@@ -1,11 +1,10 @@
-use Rattle.std.proofs.Common.{◌≡◌, ◌≤◌, ◌<◌, ℕ, Result, OnOk, sym, ◌∙◌, subst, arith}
+use Rattle.std.proofs.Common.{◌≡◌, ◌<◌, Result, OnOk, sym, subst, arith}
 use Rattle.std.specs.Prelude.{IfErr}
 use Rattle.tf_records.specs.declared.refusal.Refusal.{Refusal}
 use Rattle.tf_manifest.specs.declared.jobs.Merged.{Merged}
 use Rattle.tf_manifest.specs.declared.uninstalled.Uninstalled.{Uninstalled}
 use Rattle.tf_manifest.specs.Install.{OnStale}
-use Rattle.tf_manifest.specs.Jobs.{InstallsIn, StandsIn, kind_of_merged}
-use Rattle.tf_manifest.specs.Kinds.{kind_of}
+use Rattle.tf_manifest.specs.Jobs.{StandsIn}
 use Rattle.tf_manifest.specs.View.{references_in}
 use Rattle.tf_forest.specs.Publish.{MakesRoom}
 use Rattle.tf_forest.proofs.OneRow.{few_left, of_row, room_made, stands_still}

@@ -1,4 +1,4 @@
-use Rattle.std.proofs.Common.{◌≡◌, Result, Ok, Err, OnOk, sym, ◌∙◌}
+use Rattle.std.proofs.Common.{Result, Ok, Err, OnOk, sym, ◌∙◌}
 use Rattle.tf_records.specs.declared.refusal.Refusal.{Refusal}
 use Rattle.tf_forest.proofs.OneRow.{idle, row_published}
 use Rattle.tf_forest.proofs.publish.publish_row.Goals as goal

@@ -1,5 +1,5 @@
-use Rattle.std.proofs.Common.{◌≡◌, ◌+◌, ◌≤◌, ℕ, arith, sym, ◌∙◌, ap, subst}
-use Rattle.tf_forest.specs.Publish.{PublishesRow, needed_for, tables_needed}
+use Rattle.std.proofs.Common.{◌+◌, ◌≤◌, arith, sym, ◌∙◌, subst}
+use Rattle.tf_forest.specs.Publish.{PublishesRow, needed_for}
 use Rattle.tf_forest.specs.Parts.{Entries}
 use Rattle.tf_manifest.specs.View.{references_in}
 use Rattle.tf_forest.proofs.PublishRows.{goes_on, part_of_all, room_for_row}

@@ -2,7 +2,7 @@ use Rattle.std.proofs.Common.{ℕ, ◌<◌, [], refl, sym, subst, ◌∙◌, ap,
 use Rattle.tf_manifest.specs.Kinds.{unit_index}
 use Rattle.tf_manifest.specs.declared.kind.Kind.TheVariants as kind
 use Rattle.tf_manifest.specs.declared.kind.StampRow.TheVariants as stamp
-use Rattle.tf_forest.proofs.Fresh.{at_last, gives_back, index_is_log, index_read, index_set, keeps, of_kind, of_row, one_more, puts, set_last, takes_new, there, units_become}
+use Rattle.tf_forest.proofs.Fresh.{at_last, index_is_log, index_read, index_set, keeps, of_kind, of_row, one_more, puts, set_last, takes_new, units_become}
 use Rattle.tf_forest.proofs.mutable_tables.MutableTablesMutableRows.put.Goals as goal
 
 pub returns-in-Stamp-AccountIds-clause-put : goal.returns-in-Stamp-AccountIds-clause-put

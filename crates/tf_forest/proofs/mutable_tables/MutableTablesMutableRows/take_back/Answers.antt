@@ -1,8 +1,8 @@
-use Rattle.std.proofs.Common.{ℕ, ◌<◌, [], refl, sym, subst, ◌∙◌, ap, IfOk, IfSome, IsTrue}
+use Rattle.std.proofs.Common.{[], refl, sym, ◌∙◌, ap, IfSome, IsTrue}
 use Rattle.tf_manifest.specs.Kinds.{unit_index}
 use Rattle.tf_manifest.specs.declared.kind.Kind.TheVariants as kind
 use Rattle.tf_manifest.specs.declared.kind.StampRow.TheVariants as stamp
-use Rattle.tf_forest.proofs.Fresh.{at_last, gives_back, index_is_log, index_read, index_set, keeps, of_kind, of_row, one_more, puts, set_last, takes_new, there, units_become}
+use Rattle.tf_forest.proofs.Fresh.{at_last, gives_back, index_read, index_set, of_kind, one_more, set_last, there, units_become}
 use Rattle.tf_forest.proofs.mutable_tables.MutableTablesMutableRows.take_back.Goals as goal
 
 pub take_back-requires-clause-there : goal.take_back-requires-clause-there
