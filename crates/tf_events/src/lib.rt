@@ -13,8 +13,6 @@ mod event;
 mod fits;
 mod moving;
 mod own_fault;
-#[cfg(test)]
-mod tests;
 mod transfer;
 
 pub use account::{stored_account, verdict_account};

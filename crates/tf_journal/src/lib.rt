@@ -20,8 +20,6 @@ mod queries;
 mod search;
 mod side;
 mod status;
-#[cfg(test)]
-mod tests;
 mod walk;
 
 pub use entry::Entry;

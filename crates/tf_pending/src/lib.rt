@@ -10,8 +10,6 @@ mod expiring;
 mod faults;
 mod id;
 mod settling;
-#[cfg(test)]
-mod tests;
 
 pub use expiring::pulse;
 pub use faults::transfer_fault;

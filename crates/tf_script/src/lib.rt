@@ -38,8 +38,6 @@ mod request;
 mod script;
 mod statement;
 mod table;
-#[cfg(test)]
-mod tests;
 mod value;
 mod verb;
 mod word;

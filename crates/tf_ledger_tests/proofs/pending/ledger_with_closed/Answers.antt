@@ -1,0 +1,60 @@
+use Rattle.std.proofs.Common.{◌≡◌, ◌∙◌, ◌≤◌, List, [], ◌∷◌, ◌++◌, refl, arith, true, false, sym, true≢false}
+use Rattle.std.proofs.lemmas.List.Elements.{All-nil}
+use Rattle.tf_journal.specs.declared.entry.Entry.{Entry}
+use Rattle.tf_journal.specs.declared.entry.Entry.TheVariants as entry
+use Rattle.tf_journal.specs.Journal.{timestamp_of}
+use Rattle.tf_journal.specs.Lawful.{IsLawfulAt}
+use Rattle.tf_journal.specs.Ledger.{CanGrow}
+use Rattle.tf_journal.proofs.Examples.{account_grows, transfer_grows}
+use Rattle.tf_journal.proofs.Sound.{sound_nothing, sound_push, up_to_push}
+use Rattle.tf_ledger_tests.specs.declared.pending.TheConstants.{CASH, SALES, ORDER, CLOSE}
+use Rattle.tf_ledger_tests.proofs.pending.ledger_with_closed.Goals as goal
+
+abbrev accounts : List Entry
+accounts = entry.Account CASH ∷ entry.Account SALES ∷ []
+
+abbrev journal : List Entry
+journal = accounts ++ entry.Transfer ORDER ∷ []
+
+cash_grows : CanGrow [] (entry.Account CASH)
+cash_grows = account_grows [] (record CASH { timestamp = 0 }) CASH refl refl refl refl
+
+sales_grows : CanGrow (entry.Account CASH ∷ []) (entry.Account SALES)
+sales_grows = account_grows (entry.Account CASH ∷ []) (record SALES { timestamp = 0 }) SALES refl refl refl refl
+
+order_grows : CanGrow accounts (entry.Transfer ORDER)
+order_grows = transfer_grows accounts (record ORDER { timestamp = 0 }) ORDER refl refl refl refl
+
+close_grows : CanGrow journal (entry.Transfer CLOSE)
+close_grows = transfer_grows journal (record CLOSE { timestamp = 0 }) CLOSE refl refl refl refl
+
+is_lawful : IsLawfulAt 4 (journal ++ entry.Transfer CLOSE ∷ [])
+is_lawful =
+    let first = sound_push [] (entry.Account CASH) sound_nothing cash_grows in
+    let both = sound_push (entry.Account CASH ∷ []) (entry.Account SALES) first sales_grows in
+    let ordered = sound_push accounts (entry.Transfer ORDER) both order_grows in
+    let one = up_to_push 4 [] (entry.Account CASH) (All-nil (λ e. timestamp_of e ≤ 4)) (omega arith) in
+    let two = up_to_push 4 (entry.Account CASH ∷ []) (entry.Account SALES) one (omega arith) in
+    record {
+      lawful = record {
+        sound = sound_push journal (entry.Transfer CLOSE) ordered close_grows;
+        chained = ((λ linked. absurd (true≢false (sym linked))), ((λ linked. absurd (true≢false (sym linked))), ((λ linked. absurd (true≢false (sym linked))), refl)));
+      };
+      up_to = up_to_push 4 journal (entry.Transfer CLOSE) (up_to_push 4 accounts (entry.Transfer ORDER) two (omega arith)) (omega arith);
+    }
+
+pub add_account-requires : goal.add_account-requires
+add_account-requires g c = rw c.new-ledger.ensures.journal cash_grows
+
+pub add_account-requires-2 : goal.add_account-requires-2
+add_account-requires-2 g c = rw (c.in_ok-add_account.ensures.ok, c.new-ledger.ensures.journal) sales_grows
+
+pub add_transfer-requires : goal.add_transfer-requires
+add_transfer-requires g c = rw (c.in_ok-add_account-2.ensures.ok, c.in_ok-add_account.ensures.ok, c.new-ledger.ensures.journal) order_grows
+
+pub add_transfer-requires-2 : goal.add_transfer-requires-2
+add_transfer-requires-2 g c = rw (c.in_ok-add_transfer.ensures.ok, c.in_ok-add_account-2.ensures.ok, c.in_ok-add_account.ensures.ok, c.new-ledger.ensures.journal) close_grows
+
+pub returns : goal.returns
+returns g c =
+    rw (c.keep.ensures.clock, c.keep.ensures.same, c.in_ok-add_transfer-2.ensures.ok, c.in_ok-add_transfer.ensures.ok, c.in_ok-add_account-2.ensures.ok, c.in_ok-add_account.ensures.ok, c.new-ledger.ensures.journal) is_lawful
