@@ -58,12 +58,19 @@ impl<V, A: Allocator> Sealed<V, A> {
     }
 
     /// The rows whose keys are neither below `from` nor above `to`. It takes no memory.
+    ///
+    /// The number of keys that it looks at grows with the logarithm of the rows, and from the first of the range on with
+    /// that of the rows in the range.
     pub fn range(&self, from: &Key, to: &Key) -> Cursor<'_, V, A>
         ensures { result ≡ rows_upto key_cmp to.now (rows_from key_cmp from.now self.now) }
     {
-        let mut rows = self.seek(from);
-        rows.seek_back(to);
-        rows
+        let len = self.len();
+        let first = self.first_from(0, len, from, Start::Middle);
+        Cursor {
+            table: self,
+            from: first,
+            to: self.last_upto(first, len, to, Start::Front),
+        }
     }
 }
 

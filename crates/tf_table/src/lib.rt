@@ -21,8 +21,6 @@ mod sealed;
 mod sealing;
 mod search;
 mod span;
-#[cfg(test)]
-mod tests;
 
 pub use column::Column;
 pub use cursor::Cursor;

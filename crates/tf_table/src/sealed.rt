@@ -1,5 +1,5 @@
 //! A sealed table.
-ghost use Rattle.std.specs.Prelude.{◌≡◌, ◌+◌, ◌^◌, ◌<◌, ◌≤◌, ◌==◌, [], ◌∷◌, ◌++◌, length, IfOk, IsSome, slice_get};
+ghost use Rattle.std.specs.Prelude.{◌≡◌, ◌+◌, ◌^◌, ◌<◌, ◌≤◌, ◌==◌, [], ◌∷◌, ◌++◌, false, length, IfOk, IsSome, None, slice_get};
 ghost use Rattle.std.specs.Option.{option_copied, option_map};
 ghost use Rattle.tf_btree.specs.Rows.{IsRising};
 ghost use Rattle.tf_table.specs.Key.{key_cmp};
@@ -103,7 +103,7 @@ impl<V, A: Allocator> Sealed<V, A> {
         if key.cmp(&self.least).is_lt() || self.greatest.cmp(key).is_lt() {
             return None;
         }
-        if !self.filter.may_hold(key.value) {
+        if !self.may_have(key) {
             return None;
         }
         let place = count_below_between(&self.keys, key, &self.least, &self.greatest);
@@ -111,6 +111,15 @@ impl<V, A: Allocator> Sealed<V, A> {
             return Some(self.entries.at(place));
         }
         None
+    }
+
+    /// Whether the table may have the key, by one word of its filter: false says that it hasn't. Where there is no filter it
+    /// is true.
+    #[inline]
+    pub fn may_have(&self, key: &Key) -> bool
+        ensures { result ≡ false → entry_at key.now self.now ≡ None }
+    {
+        self.filter.may_hold(key.value)
     }
 
     /// The first key above `key` that has an entry, a value or a tombstone, if there is one.

@@ -5,7 +5,7 @@ use Rattle.std.specs.Ordering.{is_lt, is_eq}
 use Rattle.tf_table.specs.Key.{key_cmp}
 use Rattle.tf_table.specs.Rows.{rows_of}
 use Rattle.tf_table.specs.Content.{entry_at}
-use Rattle.tf_table.proofs.Found.{laid_before, entry_at-found, entry_at-missing, entry_at-end, entry_at-under, entry_at-over, entry_at-unheld}
+use Rattle.tf_table.proofs.Found.{laid_before, entry_at-found, entry_at-missing, entry_at-end, entry_at-under, entry_at-over}
 use Rattle.tf_table.proofs.sealed.Sealed.find.Goals as goal
 use Rattle.tf_table.proofs.sealed.Sealed.find.Goals.{then-is_lt-via-then-is_lt, then-is_lt-via-else-is_lt+then-is_lt-2, else-place-len-via-then-place-len+else-is_eq, else-place-len-via-else-place-len}
 
@@ -18,11 +18,8 @@ returns-then-is_lt g c =
     ] in
     sym none ∙ ap (entry_at c.args.key.now) c.self.view_is
 
-pub returns-then-not-may_hold : goal.returns-then-not-may_hold
-returns-then-not-may_hold g c =
-    let t = c.self.inside in
-    sym (entry_at-unheld t.filter.words.items c.args.key.now t.keys.items t.entries c.self.invariant.held (λ held. false≢true (sym c.if-not-may_hold.true ∙ c.may_hold.ensures.held held)))
-    ∙ ap (entry_at c.args.key.now) c.self.view_is
+pub returns-then-not-may_have : goal.returns-then-not-may_have
+returns-then-not-may_have g c = sym (c.may_have.ensures c.if-not-may_have.true)
 
 pub returns-then-is_eq : goal.returns-then-is_eq
 returns-then-is_eq g c =
