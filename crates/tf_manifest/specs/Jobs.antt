@@ -1,5 +1,5 @@
 -- Jobs of a manifest's rows, what they are merged into, and what an install leaves.
-use Rattle.std.specs.Prelude.{◌≡◌, ◌<◌, List, Result, Ok, Err}
+use Rattle.std.specs.Prelude.{◌≡◌, ◌<◌, ℕ, List, length, Result, Ok, Err}
 use Rattle.tf_manifest.specs.declared.jobs.Job.{Job}
 use Rattle.tf_manifest.specs.declared.jobs.Job.TheVariants as job
 use Rattle.tf_manifest.specs.declared.jobs.Merged.{Merged}
@@ -11,7 +11,7 @@ use Rattle.tf_manifest.specs.declared.kind.Kind.TheVariants as kind
 use Rattle.tf_manifest.specs.declared.row.Row.{Row}
 use Rattle.tf_manifest.specs.Kinds.{kind_of}
 use Rattle.tf_manifest.specs.Limit.{one_more}
-use Rattle.tf_manifest.specs.Run.{Run, Output, IsPicked, IsMergeOf, Stands, InstallsAt}
+use Rattle.tf_manifest.specs.Run.{Run, Output, IsPicked, IsRun, IsMergeOf, Stands, InstallsAt}
 use Rattle.tf_manifest.specs.Table.{Shown}
 use Rattle.tf_manifest.specs.View.{View, StoredBy, rows_by, with_rows, tables_by, place_by}
 
@@ -80,6 +80,12 @@ module _ {A N : Type 0} where
   -- the table is what the run is merged into
   abbrev pub IsMerged : Merged A N → Type 0
   IsMerged m = IsMergeOf (output_of m).run (output_of m).table
+
+  -- so many entries are what a run of two tables, of one level below the highest, is merged into
+  pub record HasEntries (m : Merged A N) (count : ℕ) : Type 0 where
+    pub entries : count ≡ length (output_of m).table.rows
+    pub merges : IsMerged m
+    pub run : IsRun (output_of m).run
 
   -- the references that were merged stand in their row
   abbrev pub StandsIn : View → Merged A N → Type 0

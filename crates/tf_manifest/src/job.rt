@@ -1,6 +1,6 @@
 //! Jobs: two tables of a row that are to be merged, and what a merge gives.
-ghost use Rattle.std.specs.Prelude.{◌≡◌, IfOk, IfErr};
-ghost use Rattle.tf_manifest.specs.Run.{IsMergeOf};
+ghost use Rattle.std.specs.Prelude.{◌≡◌, length, IfOk, IfErr};
+ghost use Rattle.tf_manifest.specs.Run.{IsMergeOf, IsRun};
 
 use crate::{Body, Naming, RowValue, TableRef};
 use std::alloc::Allocator;
@@ -45,6 +45,16 @@ impl<'r, V: RowValue, A: Allocator, N: Naming> Model for RowMerged<'r, V, A, N> 
     ghost invariant = { λ m. IsMergeOf m.job m.body };
 }
 
+impl<'r, V: RowValue, A: Allocator, N: Naming> RowJob<'r, V, A, N> {
+    /// The level of the two tables, below the highest.
+    fn level(&self) -> u32
+        ensures level { result ≡ self.now.older.table.level }
+        ensures run { IsRun self.now }
+    {
+        self.older.table().level()
+    }
+}
+
 impl<'r, V: RowValue, A: Allocator + Clone, N: Naming> RowJob<'r, V, A, N> {
     /// Merges the two tables into one, of the next level. Tombstones go where nothing is older, and stay elsewhere.
     ///
@@ -71,6 +81,17 @@ impl<'r, V: RowValue, A: Allocator + Clone, N: Naming> RowJob<'r, V, A, N> {
 }
 
 impl<'r, V: RowValue, A: Allocator, N: Naming> RowMerged<'r, V, A, N> {
+    /// How many entries the merged table has: no more than the two that it was merged from have together.
+    pub fn entries(&self) -> usize
+        ensures entries { result ≡ length self.now.table.rows }
+        ensures merges { IsMergeOf self.now.run self.now.table }
+        ensures run { IsRun self.now.run }
+    {
+        // Only the level tells that it is below the highest.
+        let _level = self.job.level();
+        self.body.table().len()
+    }
+
     /// The job, and the table that it was merged into, to be pushed and put in its place. It takes no memory.
     pub fn into_parts(self) -> (RowJob<'r, V, A, N>, Body<V, A>)
         ensures parts { record { run = result.0; table = result.1 } ≡ self.entry }

@@ -1,7 +1,7 @@
 //! The rows of jobs, and their merges.
 ghost use Rattle.std.specs.Prelude.{◌≡◌, IfOk, IfErr};
 ghost use Rattle.tf_manifest.specs.Kinds.{kind_of};
-ghost use Rattle.tf_manifest.specs.Jobs.{IsMerged, job_of, kind_of_job};
+ghost use Rattle.tf_manifest.specs.Jobs.{HasEntries, IsMerged, job_of, kind_of_job};
 
 use crate::{Job, Kind, Merged, Naming, Row};
 use std::alloc::Allocator;
@@ -50,6 +50,24 @@ impl<'r, A: Allocator + Clone, N: Naming> Job<'r, A, N> {
             Job::State(job) => Ok(Merged::State(job.merge(alloc)?)),
             Job::Sums(job) => Ok(Merged::Sums(job.merge(alloc)?)),
             Job::Status(job) => Ok(Merged::Status(job.merge(alloc)?)),
+        }
+    }
+}
+
+impl<'r, A: Allocator, N: Naming> Merged<'r, A, N> {
+    /// How many entries the merged table has: no more than the two that it was merged from have together.
+    pub fn entries(&self) -> usize
+        ensures { HasEntries self.now result }
+    {
+        match self {
+            Merged::Stamp(_, merged) => merged.entries(),
+            Merged::Account(merged) => merged.entries(),
+            Merged::Transfer(merged) => merged.entries(),
+            Merged::Id(merged) => merged.entries(),
+            Merged::Unit(_, merged) => merged.entries(),
+            Merged::State(merged) => merged.entries(),
+            Merged::Sums(merged) => merged.entries(),
+            Merged::Status(merged) => merged.entries(),
         }
     }
 }
