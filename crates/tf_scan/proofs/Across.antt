@@ -66,11 +66,11 @@ module _ (d : Direction) where
 
 module _ {V A : Type 0} (d : Direction) (v : ℕ) where
   -- no row comes before the nearest timestamp of all
-  pub first-all : (ps : List (Place V A)) → AllByRecursion (IsPlace d v) ps → (u : ℕ) → is_past d u (nearest_of d ps) ≡ true → entry_of (key_of v u) (lists_left v ps) ≡ None
+  pub first-all : (ps : List (Place V A)) → AllByRecursion (IsPlace d v) ps → (u : ℕ) → is_past d u (nearest_of d ps) ≡ true → entry_of (key_of v u) (lists_left d v ps) ≡ None
   first-all [] h u e = refl
   first-all (p ∷ ps) h u e =
       let k = nearer-past d u (nearest_in d p) (nearest_of d ps) e in
-      ap (λ x. first_some x (entry_of (key_of v u) (lists_left v ps))) (place-first d v p h.0 u k.0) ∙ first-all ps h.1 u k.1
+      ap (λ x. first_some x (entry_of (key_of v u) (lists_left d v ps))) (place-first d v p h.0 u k.0) ∙ first-all ps h.1 u k.1
 
   from-each : (t : ℕ) (ps : List (Place V A)) → IsFrom d t (nearest_of d ps) → AllByRecursion (λ p. IsFrom d t (nearest_in d p)) ps
   from-each t [] e = tt
@@ -81,8 +81,8 @@ module _ {V A : Type 0} (d : Direction) (v : ℕ) where
   from-all t ps e = from-each t ps (subst (IsFrom d t) e (before-self d t))
 
   -- where each place keeps entries, all together do
-  keeps-all : (stays : ℕ → Bool) (R : Place V A → Place V A → Type 0) → ((o n : Place V A) → R o n → Keeps v stays (rows_left v o) (rows_left v n)) → (old new : List (Place V A)) → AllZip R old new
-      → (u : ℕ) → entry_of (key_of v u) (lists_left v new) ≡ cond (stays u) (entry_of (key_of v u) (lists_left v old)) None
+  keeps-all : (stays : ℕ → Bool) (R : Place V A → Place V A → Type 0) → ((o n : Place V A) → R o n → Keeps v stays (rows_left d v o) (rows_left d v n)) → (old new : List (Place V A)) → AllZip R old new
+      → (u : ℕ) → entry_of (key_of v u) (lists_left d v new) ≡ cond (stays u) (entry_of (key_of v u) (lists_left d v old)) None
   keeps-all stays R f [] [] h u = either (stays u) None
     where
       either : (b : Bool) (x : Option (Option V)) → x ≡ cond b x x
@@ -91,9 +91,9 @@ module _ {V A : Type 0} (d : Direction) (v : ℕ) where
   keeps-all stays R f [] (n ∷ new) h u = absurd h
   keeps-all stays R f (o ∷ old) [] h u = absurd h
   keeps-all stays R f (o ∷ old) (n ∷ new) h u =
-      ap (λ x. first_some x (entry_of (key_of v u) (lists_left v new))) (f o n h.0 u)
-      ∙ ap (first_some (cond (stays u) (entry_at (key_of v u) (rows_left v o)) None)) (keeps-all stays R f old new h.1 u)
-      ∙ both-kept (stays u) (entry_at (key_of v u) (rows_left v o)) (entry_of (key_of v u) (lists_left v old))
+      ap (λ x. first_some x (entry_of (key_of v u) (lists_left d v new))) (f o n h.0 u)
+      ∙ ap (first_some (cond (stays u) (entry_at (key_of v u) (rows_left d v o)) None)) (keeps-all stays R f old new h.1 u)
+      ∙ both-kept (stays u) (entry_at (key_of v u) (rows_left d v o)) (entry_of (key_of v u) (lists_left d v old))
     where
       both-kept : (b : Bool) (x y : Option (Option V)) → first_some (cond b x None) (cond b y None) ≡ cond b (first_some x y) None
       both-kept true x y = refl
@@ -112,40 +112,40 @@ module _ {V A : Type 0} (d : Direction) (v : ℕ) where
     pub seeks-right : AllZip (Seeks d v t) old new → AllByRecursion (IsPlace d v) new
     seeks-right h = right-each (Seeks d v t) (λ o n k. k.right) old new h
 
-    pub takes-keep : AllZip (Takes d v t) old new → (u : ℕ) → entry_of (key_of v u) (lists_left v new) ≡ cond (not (nat_eq u t)) (entry_of (key_of v u) (lists_left v old)) None
+    pub takes-keep : AllZip (Takes d v t) old new → (u : ℕ) → entry_of (key_of v u) (lists_left d v new) ≡ cond (not (nat_eq u t)) (entry_of (key_of v u) (lists_left d v old)) None
     takes-keep h = keeps-all (λ u. not (nat_eq u t)) (Takes d v t) (λ o n k. k.others) old new h
 
-    pub seeks-keep : AllZip (Seeks d v t) old new → (u : ℕ) → entry_of (key_of v u) (lists_left v new) ≡ cond (not (is_before d u t)) (entry_of (key_of v u) (lists_left v old)) None
+    pub seeks-keep : AllZip (Seeks d v t) old new → (u : ℕ) → entry_of (key_of v u) (lists_left d v new) ≡ cond (not (is_before d u t)) (entry_of (key_of v u) (lists_left d v old)) None
     seeks-keep h = keeps-all (λ u. not (is_before d u t)) (Seeks d v t) (λ o n k. k.others) old new h
 
-  takes-steps : (t : ℕ) (old new : List (Place V A)) → AllZip (Takes d v t) old new → sum_by (steps_left v) new ≤ sum_by (steps_left v) old
+  takes-steps : (t : ℕ) (old new : List (Place V A)) → AllZip (Takes d v t) old new → sum_by (steps_left d v) new ≤ sum_by (steps_left d v) old
   takes-steps t [] [] h = omega arith
   takes-steps t [] (n ∷ new) h = absurd h
   takes-steps t (o ∷ old) [] h = absurd h
   takes-steps t (o ∷ old) (n ∷ new) h =
       let i = takes-steps t old new h.1 in
       let k = h.0.steps in
-      omega (arith, sum_by-cons (steps_left v) o old, sum_by-cons (steps_left v) n new)
+      omega (arith, sum_by-cons (steps_left d v) o old, sum_by-cons (steps_left d v) n new)
 
   -- a step is done where the timestamp is the nearest of all
-  pub takes-fewer : (t : ℕ) (old new : List (Place V A)) → AllZip (Takes d v t) old new → Some t ≡ nearest_of d old → sum_by (steps_left v) new < sum_by (steps_left v) old
+  pub takes-fewer : (t : ℕ) (old new : List (Place V A)) → AllZip (Takes d v t) old new → Some t ≡ nearest_of d old → sum_by (steps_left d v) new < sum_by (steps_left d v) old
   takes-fewer t [] new h e = absurd (let k : Some t ≡ None = e in cc)
   takes-fewer t (o ∷ old) [] h e = absurd h
   takes-fewer t (o ∷ old) (n ∷ new) h e =
-      let ol = sum_by-cons (steps_left v) o old in
-      let nl = sum_by-cons (steps_left v) n new in
+      let ol = sum_by-cons (steps_left d v) o old in
+      let nl = sum_by-cons (steps_left d v) n new in
       elim (nearer-one d t (nearest_in d o) (nearest_of d old) (sym e)) [
         | inl k ↦ let i = takes-steps t old new h.1 in let l = h.0.fewer k in omega arith
         | inr k ↦ let i = takes-fewer t old new h.1 (sym k) in let l = h.0.steps in omega arith
       ]
 
-module _ {V A : Type 0} (v : ℕ) where
+module _ {V A : Type 0} (d : Direction) (v : ℕ) where
   -- one more place
-  pub entry_of-push : (u : ℕ) (ps : List (Place V A)) (p : Place V A) → entry_of (key_of v u) (lists_left v (ps ++ p ∷ [])) ≡ first_some (entry_of (key_of v u) (lists_left v ps)) (entry_at (key_of v u) (rows_left v p))
-  entry_of-push u [] p = first_some-none (entry_at (key_of v u) (rows_left v p))
+  pub entry_of-push : (u : ℕ) (ps : List (Place V A)) (p : Place V A) → entry_of (key_of v u) (lists_left d v (ps ++ p ∷ [])) ≡ first_some (entry_of (key_of v u) (lists_left d v ps)) (entry_at (key_of v u) (rows_left d v p))
+  entry_of-push u [] p = first_some-none (entry_at (key_of v u) (rows_left d v p))
   entry_of-push u (q ∷ ps) p =
-      ap (first_some (entry_at (key_of v u) (rows_left v q))) (entry_of-push u ps p)
-      ∙ first_some-assoc (entry_at (key_of v u) (rows_left v q)) (entry_of (key_of v u) (lists_left v ps)) (entry_at (key_of v u) (rows_left v p))
+      ap (first_some (entry_at (key_of v u) (rows_left d v q))) (entry_of-push u ps p)
+      ∙ first_some-assoc (entry_at (key_of v u) (rows_left d v q)) (entry_of (key_of v u) (lists_left d v ps)) (entry_at (key_of v u) (rows_left d v p))
 
 -- whether an entry by reference is a value
 is_live : {V : Type 0} (r : Option (Option (Bor V))) → is_some (option_flatten (option_map option_copied r)) ≡ is_some (option_flatten r)
@@ -160,20 +160,20 @@ refilled xs ws e =
 
 module _ {V A : Type 0} (d : Direction) (v : ℕ) where
   -- at the end of all places nothing is left
-  pub end-prefix : (ps : List (Place V A)) → AllByRecursion (IsPlace d v) ps → None ≡ nearest_of d ps → prefix_of d v (lists_left v ps) ≡ []
-  end-prefix ps h e = none-prefix d v (lists_left v ps) (λ u. first-all d v ps h u (ap (is_past d u) (sym e)))
+  pub end-prefix : (ps : List (Place V A)) → AllByRecursion (IsPlace d v) ps → None ≡ nearest_of d ps → prefix_of d v (lists_left d v ps) ≡ []
+  end-prefix ps h e = none-prefix d v (lists_left d v ps) (λ u. first-all d v ps h u (ap (is_past d u) (sym e)))
 
   module _ (t : ℕ) (old new : List (Place V A)) (taken : AllZip (Takes d v t) old new) where
     -- the nearest timestamp with a value is the first
-    pub taken-first : AllByRecursion (IsPlace d v) old → Some t ≡ nearest_of d old → has_timestamp v (lists_left v old) t ≡ true → prefix_of d v (lists_left v old) ≡ t ∷ prefix_of d v (lists_left v new)
-    taken-first h e = first-prefix d v t (lists_left v old) (lists_left v new) (takes-keep d v t old new taken) (λ u b. first-all d v old h u (subst (λ x. is_past d u x ≡ true) e b))
+    pub taken-first : AllByRecursion (IsPlace d v) old → Some t ≡ nearest_of d old → has_timestamp v (lists_left d v old) t ≡ true → prefix_of d v (lists_left d v old) ≡ t ∷ prefix_of d v (lists_left d v new)
+    taken-first h e = first-prefix d v t (lists_left d v old) (lists_left d v new) (takes-keep d v t old new taken) (λ u b. first-all d v old h u (subst (λ x. is_past d u x ≡ true) e b))
 
     -- a tombstone there leaves all as it is
-    pub taken-pass : has_timestamp v (lists_left v old) t ≡ false → prefix_of d v (lists_left v new) ≡ prefix_of d v (lists_left v old)
-    taken-pass = pass-prefix d v t (lists_left v old) (lists_left v new) (takes-keep d v t old new taken)
+    pub taken-pass : has_timestamp v (lists_left d v old) t ≡ false → prefix_of d v (lists_left d v new) ≡ prefix_of d v (lists_left d v old)
+    taken-pass = pass-prefix d v t (lists_left d v old) (lists_left d v new) (takes-keep d v t old new taken)
 
-  pub sought : (t : ℕ) (old new : List (Place V A)) → AllZip (Seeks d v t) old new → prefix_of d v (lists_left v new) ≡ those_from d t (prefix_of d v (lists_left v old))
-  sought t old new h = seek-prefix d v t (lists_left v old) (lists_left v new) (seeks-keep d v t old new h)
+  pub sought : (t : ℕ) (old new : List (Place V A)) → AllZip (Seeks d v t) old new → prefix_of d v (lists_left d v new) ≡ those_from d t (prefix_of d v (lists_left d v old))
+  sought t old new h = seek-prefix d v t (lists_left d v old) (lists_left d v new) (seeks-keep d v t old new h)
 
   pub seeks-long : (t : ℕ) (old new : List (Place V A)) → AllZip (Seeks d v t) old new → length new ≡ length old
   seeks-long t old new h = AllZip-long (Seeks d v t) old new h
@@ -187,24 +187,24 @@ newest-more (Some x) entry next false e f = ap (option_map option_copied) f
 
 module _ {V A : Type 0} (d : Direction) (v t : ℕ) (old now : List (Place V A)) (count : ℕ) (p : Place V A) (walked : IsWalked (Takes d v t) count old now) (inside : count < length now) (is : p ≡ get_or now count p) where
   pub entry-more : (newest entry next : Option (Option (Bor V))) (b : Bool) → is_some newest ≡ not b → next ≡ cond b entry newest
-      → option_map option_copied newest ≡ entry_of (key_of v t) (lists_left v (take count old)) → option_map option_copied entry ≡ entry_at (key_of v t) (rows_left v p)
-      → option_map option_copied next ≡ entry_of (key_of v t) (lists_left v (take (count + 1) old))
+      → option_map option_copied newest ≡ entry_of (key_of v t) (lists_left d v (take count old)) → option_map option_copied entry ≡ entry_at (key_of v t) (rows_left d v p)
+      → option_map option_copied next ≡ entry_of (key_of v t) (lists_left d v (take (count + 1) old))
   entry-more newest entry next b e f so here =
       let there = walked-next (Takes d v t) count old now p walked inside is in
       newest-more newest entry next b e f
       ∙ ap (λ x. first_some x (option_map option_copied entry)) so
-      ∙ ap (first_some (entry_of (key_of v t) (lists_left v (take count old)))) here
-      ∙ sym (entry_of-push v t (take count old) p)
-      ∙ ap (λ q. entry_of (key_of v t) (lists_left v (take count old ++ q ∷ []))) (sym there.1)
-      ∙ ap (λ ps. entry_of (key_of v t) (lists_left v ps)) (sym (take_more old count p there.0))
+      ∙ ap (first_some (entry_of (key_of v t) (lists_left d v (take count old)))) here
+      ∙ sym (entry_of-push d v t (take count old) p)
+      ∙ ap (λ q. entry_of (key_of v t) (lists_left d v (take count old ++ q ∷ []))) (sym there.1)
+      ∙ ap (λ ps. entry_of (key_of v t) (lists_left d v ps)) (sym (take_more old count p there.0))
 
   -- the next place is as it was at first
   pub place-there : (P : Place V A → Type 0) → AllByRecursion P old → P p
   place-there P h = let there = walked-next (Takes d v t) count old now p walked inside is in each-at P old count p h there.0 there.1
 
 -- whether the prefix has the timestamp is whether its entry is a value
-pub has-entry : {V A : Type 0} (v t : ℕ) (ps : List (Place V A)) (r : Option (Option (Bor V))) (f : Option (Bor V)) (b : Bool) → option_map option_copied r ≡ entry_of (key_of v t) (lists_left v ps) → f ≡ option_flatten r → b ≡ is_some f → has_timestamp v (lists_left v ps) t ≡ b
-has-entry v t ps r f b e g h = ap (λ x. is_some (option_flatten x)) (sym e) ∙ is_live r ∙ ap is_some (sym g) ∙ sym h
+pub has-entry : {V A : Type 0} (d : Direction) (v t : ℕ) (ps : List (Place V A)) (r : Option (Option (Bor V))) (f : Option (Bor V)) (b : Bool) → option_map option_copied r ≡ entry_of (key_of v t) (lists_left d v ps) → f ≡ option_flatten r → b ≡ is_some f → has_timestamp v (lists_left d v ps) t ≡ b
+has-entry d v t ps r f b e g h = ap (λ x. is_some (option_flatten x)) (sym e) ∙ is_live r ∙ ap is_some (sym g) ∙ sym h
 
 pub each-push : {X : Type 0} (P : X → Type 0) (xs : List X) (x : X) → AllByRecursion P xs → P x → AllByRecursion P (xs ++ x ∷ [])
 each-push P [] x h p = (p, tt)

@@ -1,5 +1,5 @@
 -- The entries of rows at the timestamps of one value.
-use Rattle.std.proofs.Common.{◌≡◌, ℕ, ◌≤◌, List, [], ◌∷◌, Option, Some, None, Bool, true, false, not, ◌||◌, ◌&&◌, cond, refl, sym, ◌∙◌, ap, subst}
+use Rattle.std.proofs.Common.{◌≡◌, ℕ, ◌-◌, ◌^◌, ◌≤◌, arith, List, [], ◌∷◌, Option, Some, None, Bool, true, false, not, ◌||◌, ◌&&◌, cond, refl, sym, ◌∙◌, ap, subst}
 use Rattle.std.specs.Prelude.{nat_eq, nat_lt}
 use Rattle.std.specs.List.{AllByRecursion}
 use Rattle.std.specs.Ordering.{nat_cmp, ordering_then, is_lt, is_eq, is_gt}
@@ -18,7 +18,9 @@ use Rattle.tf_table.proofs.Rising.{is_gt_is, value_at-here, value_at-there, equa
 use Rattle.tf_table.proofs.Determined.{bool_cases, value_at-filter}
 use Rattle.tf_manifest.specs.Rows.{key_of}
 use Rattle.tf_scan.specs.Sets.{is_among}
-use Rattle.tf_scan.specs.Place.{rows_within, is_within}
+use Rattle.tf_scan.specs.declared.direction.Direction.{Direction}
+use Rattle.tf_scan.specs.declared.direction.Direction.TheVariants.{Rising, Falling}
+use Rattle.tf_scan.specs.Place.{rows_within, span_from, first_of, is_within}
 use Rattle.tf_scan.proofs.Members.{false_true}
 
 -- keys of one value compare as their timestamps do
@@ -84,13 +86,13 @@ both true b x = refl
 both false true x = refl
 both false false x = refl
 
-pub entry-within : {V : Type 0} (v : ℕ) (span : Span) (u : ℕ) (rows : List (Key × Option V)) → entry_at (key_of v u) (rows_within v span rows) ≡ cond (is_within (Some span) u) (entry_at (key_of v u) rows) None
+pub entry-within : {V : Type 0} (v : ℕ) (span : Span) (u : ℕ) (rows : List (Key × Option V)) → entry_at (key_of v u) (rows_within v span rows) ≡ cond (is_within span u) (entry_at (key_of v u) rows) None
 entry-within v span u rows =
     entry-upto v span.latest u (rows_from key_cmp (key_of v span.earliest) rows)
     ∙ ap (λ e. cond (not (nat_lt span.latest u)) e None) (entry-from v span.earliest u rows)
     ∙ both (not (nat_lt u span.earliest)) (not (nat_lt span.latest u)) (entry_at (key_of v u) rows)
 
--- ---- a range over the whole span
+-- ---- rows of a table with this span
 
 all-among : (P : ℕ → Type 0) (t : ℕ) (ts : List ℕ) → AllByRecursion P ts → is_among t ts ≡ true → P t
 all-among P t [] h m = false_true m
@@ -100,15 +102,28 @@ all-among P t (u ∷ us) h m = step (nat_eq t u) refl m (all-among P t us h.1)
     step true e k i = subst P (sym (eqb-true t u e)) h.0
     step false e k i = i k
 
-pub entry-span : {V : Type 0} (v : ℕ) (span : Span) (u : ℕ) (rows : List (Key × Option V)) → IsSpan span (timestamps rows) → entry_at (key_of v u) (rows_within v span rows) ≡ entry_at (key_of v u) rows
-entry-span {V} v span u rows s = entry-within v span u rows ∙ bool_cases (is_among u (timestamps rows))
-    (λ m.
+inside-span : {V : Type 0} (span : Span) (u : ℕ) (rows : List (Key × Option V)) → IsSpan span (timestamps rows) → is_among u (timestamps rows) ≡ true → is_within span u ≡ true
+inside-span span u rows s m =
     let inside = all-among (λ time. (span.earliest ≤ time) × (time ≤ span.latest)) u (timestamps rows) (recursion_from_All _ (timestamps rows) s.within) m in
-    cond-true (is_within (Some span) u) _ _ (rw (le-ltb u span.earliest inside.0, le-ltb span.latest u inside.1) refl))
+    rw (le-ltb u span.earliest inside.0, le-ltb span.latest u inside.1) refl
+
+-- the rows of a value whose timestamps lie outside the span are none
+pub entry-outside : {V : Type 0} (v : ℕ) (span : Span) (u : ℕ) (rows : List (Key × Option V)) → IsSpan span (timestamps rows) → is_within span u ≡ false → entry_at (key_of v u) rows ≡ None
+entry-outside v span u rows s w = entry-absent v u rows (bool_cases (is_among u (timestamps rows)) (λ m. false_true (sym w ∙ inside-span span u rows s m)) (λ n. n))
+
+-- of a table the rows from the side that comes first on are all
+pub entry-start : {V : Type 0} (d : Direction) (v : ℕ) (span : Span) (u : ℕ) (rows : List (Key × Option V)) → IsSpan span (timestamps rows) → span.latest ≤ 2 ^ 64 - 1
+    → entry_at (key_of v u) (rows_within v (span_from d (first_of d span)) rows) ≡ entry_at (key_of v u) rows
+entry-start {V} d v span u rows s fits = entry-within v (span_from d (first_of d span)) u rows ∙ bool_cases (is_among u (timestamps rows))
+    (λ m. cond-true (is_within (span_from d (first_of d span)) u) _ _ (from-start d (all-among (λ time. (span.earliest ≤ time) × (time ≤ span.latest)) u (timestamps rows) (recursion_from_All _ (timestamps rows) s.within) m)))
     (λ n.
     let none : entry_at (key_of v u) rows ≡ None = entry-absent v u rows n in
-    ap (λ e. cond (is_within (Some span) u) e None) none ∙ either (is_within (Some span) u) None ∙ sym none)
+    ap (λ e. cond (is_within (span_from d (first_of d span)) u) e None) none ∙ either (is_within (span_from d (first_of d span)) u) None ∙ sym none)
   where
     either : (b : Bool) (x : Option (Option V)) → cond b x x ≡ x
     either true x = refl
     either false x = refl
+
+    from-start : (d : Direction) → (span.earliest ≤ u) × (u ≤ span.latest) → is_within (span_from d (first_of d span)) u ≡ true
+    from-start Rising i = rw (le-ltb u span.earliest i.0, le-ltb (2 ^ 64 - 1) u (omega (arith, fits, i.1))) refl
+    from-start Falling i = rw (le-ltb u 0 (omega arith), le-ltb span.latest u i.1) refl

@@ -4,23 +4,19 @@ use Rattle.std.specs.Prelude.{is_some}
 use Rattle.std.specs.List.{AllByRecursion, AllZip}
 use Rattle.std.specs.Option.{option_flatten}
 use Rattle.std.proofs.lemmas.List.{append_assoc, get_or-set_same, length-set, set-set, set-get_or}
-use denote.Ref.{Bor}
 use Rattle.tf_table.specs.declared.key.Key.{Key}
 use Rattle.tf_table.specs.Content.{entry_at, values_of}
-use Rattle.tf_table.specs.Merge.{seen}
 use Rattle.tf_table.specs.Span.{timestamps}
 use Rattle.tf_manifest.specs.Rows.{key_of}
 use Rattle.tf_scan.specs.declared.direction.Direction.{Direction}
-use Rattle.tf_scan.specs.declared.place.Front.{Front}
 use Rattle.tf_scan.specs.declared.place.Place.{Place}
 use Rattle.tf_scan.specs.declared.place.Place.TheVariants.{Closed, Open, End}
 use Rattle.tf_scan.specs.Prefix.{has_timestamp, prefix_of}
-use Rattle.tf_scan.specs.Place.{IsTaken, rows_left, lists_left, nearest_in, nearest_of, nearer, is_past, IsHead, IsPlace, HasRows, Takes}
+use Rattle.tf_scan.specs.Place.{IsTaken, rows_left, lists_left, nearest_in, nearest_of, nearer, is_past, IsPlace, Takes}
 use Rattle.tf_scan.specs.Turn.{nearest_but}
-use Rattle.tf_scan.specs.Run.{IsBehind, IsStep, AreTaken, AreFirst, AreWritten, WritesRows, WritesRun, WritesPrefix}
+use Rattle.tf_scan.specs.Run.{IsStep, AreTaken, AreFirst, AreWritten, WritesRows, WritesRun, WritesPrefix}
 use Rattle.tf_scan.proofs.Order.{before-asym}
-use Rattle.tf_scan.proofs.Entries.{entry-here}
-use Rattle.tf_scan.proofs.Taking.{has-some, has-none, is_opened, head-takes}
+use Rattle.tf_scan.proofs.Taking.{time-taken, row-takes, row-entry}
 use Rattle.tf_scan.proofs.Across.{each-at, takes-right, taken-first, taken-pass}
 use Rattle.tf_scan.proofs.Turns.{nearest-parts, at-place, others-stay, takes-one, entry-one}
 use Rattle.tf_scan.proofs.Moves.{written-none, written-both}
@@ -38,77 +34,59 @@ live-append ((k, Some x) ∷ rows) more = ap (λ (ts : List ℕ). k.timestamp �
 
 -- ---- more rows
 
--- a row as one by reference
-abbrev shown : {V : Type 0} → ℕ × ℕ → Key × Option V → Bor Key × Option (Bor V)
-shown p (k, None) = (record { ref_ptr = p; now = k }, None)
-shown p (k, Some x) = (record { ref_ptr = p; now = k }, Some record { ref_ptr = p; now = x })
+module _ {V : Type 0} (d : Direction) (until : Option ℕ) where
+  pub rows-none : (i : ℕ) (rows : List (Key × Option V)) (xs : List ℕ) → i ≤ length xs → WritesRows d until i i rows rows xs xs
+  rows-none i rows xs l = record { rows = []; taken = refl; written = written-none i xs l }
 
-seen-shown : {V : Type 0} (p : ℕ × ℕ) (row : Key × Option V) → seen (shown p row) ≡ row
-seen-shown p (k, None) = refl
-seen-shown p (k, Some x) = refl
+  first-both : (rows more old mid new : List (Key × Option V)) → AreFirst (λ (r : Key × Option V). r.0.timestamp) d until rows old mid → AreFirst (λ (r : Key × Option V). r.0.timestamp) d until more mid new → AreFirst (λ (r : Key × Option V). r.0.timestamp) d until (rows ++ more) old new
+  first-both [] more old mid new a b = subst (λ (rs : List (Key × Option V)). AreFirst (λ (r : Key × Option V). r.0.timestamp) d until more rs new) a b
+  first-both (r ∷ rows) more old mid new a b = (a.0, a.1, a.2, first-both rows more a.0 mid new a.3 b)
 
-module _ {V A : Type 0} (d : Direction) (until : Option ℕ) where
-  taken-both : (rows more : List (Key × Option V)) (old mid new : Place V A) → AreTaken d until rows old mid → AreTaken d until more mid new → AreTaken d until (rows ++ more) old new
-  taken-both [] more old mid new a b = subst (λ (p : Place V A). AreTaken d until more p new) a b
-  taken-both (r ∷ rows) more old mid new a b = (a.0, a.1, taken-both rows more a.0 mid new a.2 b)
-
-  -- the next row of a place, and the first of the others
-  taken-run : (rows left : List (Key × Option V)) (front : Front V A) (new : Place V A) (row : Key × Option V) → row ≡ seen front.row → is_past d row.0.timestamp until ≡ true → AreFirst (λ (r : Key × Option V). r.0.timestamp) d until rows front.others left → IsBehind d left new
-      → AreTaken d until (row ∷ rows) (Open front) new
-  taken-run [] left front new row e p a b = (new, (e, p, subst (λ (rs : List (Key × Option V)). IsBehind d rs new) a b), refl)
-  taken-run (r ∷ rows) left front new row e p a b =
-      let bor = shown front.row.0.ref_ptr r in
-      let same = seen-shown front.row.0.ref_ptr r in
-      let next : Front V A = record { row = bor; others = a.0 } in
-      (Open next, (e, p, subst (λ (s : Key × Option V). IsTaken d s front.others a.0) (sym same) a.1), taken-run rows left next new r (sym same) a.2 a.3 b)
-
-  pub writes-none : (i : ℕ) (p : Place V A) (xs : List ℕ) → i ≤ length xs → WritesRun d until i i p p xs xs
-  writes-none i p xs l = record { rows = []; taken = refl; written = written-none i xs l }
-
-  pub writes-more : (from to mid end : ℕ) (old new : Place V A) (front : Front V A) (left : List (Key × Option V)) (xs ys us zs : List ℕ) → WritesRun d until from to old (Open front) xs ys → is_past d front.row.0.now.timestamp until ≡ true → AreWritten (timestamps (values_of (seen front.row ∷ []))) to mid ys us
-      → WritesRows d until mid end front.others left us zs → IsBehind d left new → WritesRun d until from end old new xs zs
-  writes-more from to mid end old new front left xs ys us zs w p own v b =
-      let row = seen front.row in
+  pub rows-both : (from to end : ℕ) (old mid new : List (Key × Option V)) (xs ys zs : List ℕ) → WritesRows d until from to old mid xs ys → WritesRows d until to end mid new ys zs → WritesRows d until from end old new xs zs
+  rows-both from to end old mid new xs ys zs w v =
       let live = λ (rows : List (Key × Option V)). timestamps (values_of rows) in
       record {
-        rows = w.rows ++ row ∷ v.rows;
-        taken = taken-both w.rows (row ∷ v.rows) old (Open front) new w.taken (taken-run v.rows left front new row refl p v.taken b);
-        written =
-            subst (λ ts. AreWritten ts from end xs zs) (ap (λ (ts : List ℕ). live w.rows ++ ts) (sym (live-append (row ∷ []) v.rows)) ∙ sym (live-append w.rows (row ∷ v.rows)))
-            (written-both (live w.rows) from to xs ys w.written (live (row ∷ []) ++ live v.rows) end zs (written-both (live (row ∷ [])) to mid ys us own (live v.rows) end zs v.written));
+        rows = w.rows ++ v.rows;
+        taken = first-both w.rows v.rows old mid new w.taken v.taken;
+        written = subst (λ ts. AreWritten ts from end xs zs) (sym (live-append w.rows v.rows)) (written-both (live w.rows) from to xs ys w.written (live v.rows) end zs v.written);
       }
+
+  pub rows-one : (from to : ℕ) (old new : List (Key × Option V)) (row : Key × Option V) (xs ys : List ℕ) → IsTaken d row old new → is_past d row.0.timestamp until ≡ true → AreWritten (timestamps (values_of (row ∷ []))) from to xs ys → WritesRows d until from to old new xs ys
+  rows-one from to old new row xs ys e p w = record { rows = row ∷ []; taken = (new, e, p, refl); written = w }
+
+  taken-open : (A : Type 0) (rows old new : List (Key × Option V)) → AreFirst (λ (r : Key × Option V). r.0.timestamp) d until rows old new → AreTaken {V = V} {A = A} d until rows (Open old) (Open new)
+  taken-open A [] old new a = ap Open a
+  taken-open A (r ∷ rows) old new a = (Open a.0, (a.0, refl, a.1, a.2), taken-open A rows a.0 new a.3)
+
+module _ {V A : Type 0} (d : Direction) (until : Option ℕ) where
+  pub run-open : (from to : ℕ) (old new : List (Key × Option V)) (xs ys : List ℕ) → WritesRows d until from to old new xs ys → WritesRun {V = V} {A = A} d until from to (Open old) (Open new) xs ys
+  run-open from to old new xs ys w = record { rows = w.rows; taken = taken-open d until A w.rows old new w.taken; written = w.written }
+
+  pub run-none : (i : ℕ) (p : Place V A) (xs : List ℕ) → i ≤ length xs → WritesRun d until i i p p xs xs
+  run-none i p xs l = record { rows = []; taken = refl; written = written-none i xs l }
 
 -- ---- a step of one place
 
-module _ {V A : Type 0} (d : Direction) (v : ℕ) (until : Option ℕ) where
-  behind-rows : (front : Front V A) (new : Place V A) → IsHead d v (seen front.row) front.others → IsBehind d front.others new → HasRows d v front.others new
-  behind-rows front (Closed table span) h e = absurd e
-  behind-rows front (Open next) h e = has-some d v front.others next h.others e
-  behind-rows front End h e = has-none d v front.others e
+module _ {V A : Type 0} (d : Direction) (v : ℕ) (until : Option ℕ) (row : Key × Option V) (new : Place V A) where
+  step-takes : (p : Place V A) → IsPlace d v p → IsStep d until row p new → Takes d v row.0.timestamp p new
+  step-takes (Closed table bound) h e = absurd e
+  step-takes End h e = absurd e
+  step-takes (Open rows) h e = subst (Takes d v row.0.timestamp (Open rows)) (sym e.1) (row-takes d v row rows e.0 row.0.timestamp h e.2 refl)
 
-  module _ (row : Key × Option V) (new : Place V A) where
-    step-takes : (p : Place V A) → IsPlace d v p → IsStep d until row p new → Takes d v row.0.timestamp p new
-    step-takes (Closed table span) h e = absurd e
-    step-takes End h e = absurd e
-    step-takes (Open front) h e =
-        subst (λ (r : Key × Option V). Takes d v r.0.timestamp (Open front) new) (sym e.0)
-        (head-takes d v (Open front) (Open front) new front front.row.0.now.timestamp (is_opened d v (Open front) (Open front) h refl) refl refl (behind-rows front new h e.2))
+  step-past : (p : Place V A) → IsStep d until row p new → is_past d row.0.timestamp until ≡ true
+  step-past (Closed table bound) e = absurd e
+  step-past End e = absurd e
+  step-past (Open rows) e = e.3
 
-    step-past : (p : Place V A) → IsStep d until row p new → is_past d row.0.timestamp until ≡ true
-    step-past (Closed table span) e = absurd e
-    step-past End e = absurd e
-    step-past (Open front) e = e.1
+  step-nearest : (p : Place V A) → IsStep d until row p new → nearest_in d p ≡ Some row.0.timestamp
+  step-nearest (Closed table bound) e = absurd e
+  step-nearest End e = absurd e
+  step-nearest (Open rows) e = time-taken (λ (r : Key × Option V). r.0.timestamp) d row rows e.0 e.2
 
-    step-nearest : (p : Place V A) → IsStep d until row p new → nearest_in d p ≡ Some row.0.timestamp
-    step-nearest (Closed table span) e = absurd e
-    step-nearest End e = absurd e
-    step-nearest (Open front) e = ap (λ (r : Key × Option V). Some r.0.timestamp) (sym e.0)
-
-    step-entry : (p : Place V A) → IsPlace d v p → IsStep d until row p new → entry_at (key_of v row.0.timestamp) (rows_left v p) ≡ Some row.1
-    step-entry (Closed table span) h e = absurd e
-    step-entry End h e = absurd e
-    step-entry (Open front) h e =
-        subst (λ (r : Key × Option V). entry_at (key_of v r.0.timestamp) (seen front.row ∷ front.others) ≡ Some r.1) (sym e.0) (entry-here v (seen front.row) front.others h.here)
+  step-entry : (p : Place V A) → IsPlace d v p → IsStep d until row p new → entry_at (key_of v row.0.timestamp) (rows_left d v p) ≡ Some row.1
+  step-entry (Closed table bound) h e = absurd e
+  step-entry End h e = absurd e
+  step-entry (Open rows) h e = row-entry d v row rows e.0 h e.2
 
 -- ---- a step of the place whose turn it is
 
@@ -139,13 +117,13 @@ module _ {V A : Type 0} (d : Direction) (v i : ℕ) (until : Option ℕ) (k : Ke
       ∙ ap (λ n. nearer d n (nearest_but d i ps)) (at-place d i ps old l is ∙ step-nearest d v until (k, o) mid old e)
       ∙ nearer-until d k.timestamp (nearest_but d i ps) past-others)
 
-  has : has_timestamp v (lists_left v ps) k.timestamp ≡ is_some o
+  has : has_timestamp v (lists_left d v ps) k.timestamp ≡ is_some o
   has = ap (λ x. is_some (option_flatten x)) (entry-one d v k.timestamp i ps old h past-others l is ∙ step-entry d v until (k, o) mid old old-right e) ∙ flat o
 
-  prefix-step : prefix_of d v (lists_left v ps) ≡ timestamps (values_of ((k, o) ∷ [])) ++ prefix_of d v (lists_left v (set ps i mid))
+  prefix-step : prefix_of d v (lists_left d v ps) ≡ timestamps (values_of ((k, o) ∷ [])) ++ prefix_of d v (lists_left d v (set ps i mid))
   prefix-step = by o refl
     where
-      by : (x : Option V) → o ≡ x → prefix_of d v (lists_left v ps) ≡ timestamps (values_of ((k, x) ∷ [])) ++ prefix_of d v (lists_left v (set ps i mid))
+      by : (x : Option V) → o ≡ x → prefix_of d v (lists_left d v ps) ≡ timestamps (values_of ((k, x) ∷ [])) ++ prefix_of d v (lists_left d v (set ps i mid))
       by None n = sym (taken-pass d v k.timestamp ps (set ps i mid) taken (has ∙ ap is_some n))
       by (Some x) n = taken-first d v k.timestamp ps (set ps i mid) taken h nearest (has ∙ ap is_some n)
 
@@ -153,10 +131,10 @@ module _ {V A : Type 0} (d : Direction) (v i : ℕ) (until : Option ℕ) (k : Ke
 
 module _ {V A : Type 0} (d : Direction) (v i : ℕ) (until : Option ℕ) where
   run-prefix : (rows : List (Key × Option V)) (ps : List (Place V A)) (old new : Place V A) → AllByRecursion (IsPlace d v) ps → until ≡ nearest_but d i ps → i < length ps → get_or ps i old ≡ old → AreTaken d until rows old new
-      → AllByRecursion (IsPlace d v) (set ps i new) × (prefix_of d v (lists_left v ps) ≡ timestamps (values_of rows) ++ prefix_of d v (lists_left v (set ps i new)))
+      → AllByRecursion (IsPlace d v) (set ps i new) × (prefix_of d v (lists_left d v ps) ≡ timestamps (values_of rows) ++ prefix_of d v (lists_left d v (set ps i new)))
   run-prefix [] ps old new h u l is e =
       let same : set ps i new ≡ ps = ap (set ps i) (e ∙ sym is) ∙ set-get_or ps i old in
-      (subst (AllByRecursion (IsPlace d v)) (sym same) h, ap (λ (qs : List (Place V A)). prefix_of d v (lists_left v qs)) (sym same))
+      (subst (AllByRecursion (IsPlace d v)) (sym same) h, ap (λ (qs : List (Place V A)). prefix_of d v (lists_left d v qs)) (sym same))
   run-prefix ((k, o) ∷ rows) ps old new h u l is e =
       let qs = set ps i e.0 in
       let ih =
@@ -165,10 +143,10 @@ module _ {V A : Type 0} (d : Direction) (v i : ℕ) (until : Option ℕ) where
       let again : set qs i new ≡ set ps i new = set-set ps i e.0 new in
       let ts = timestamps (values_of ((k, o) ∷ [])) in
       let us = timestamps (values_of rows) in
-      let left = prefix_of d v (lists_left v (set ps i new)) in (
+      let left = prefix_of d v (lists_left d v (set ps i new)) in (
         subst (AllByRecursion (IsPlace d v)) again ih.0,
         prefix-step d v i until k o old e.0 ps h u l is e.1
-            ∙ ap (λ (xs : List ℕ). ts ++ xs) (ih.1 ∙ ap (λ (rs : List (Place V A)). us ++ prefix_of d v (lists_left v rs)) again)
+            ∙ ap (λ (xs : List ℕ). ts ++ xs) (ih.1 ∙ ap (λ (rs : List (Place V A)). us ++ prefix_of d v (lists_left d v rs)) again)
             ∙ sym (append_assoc ts us left)
             ∙ ap (λ (xs : List ℕ). xs ++ left) (sym (live-cons k o rows)),
       )

@@ -1,19 +1,22 @@
 -- Steps of a place: how its rows change as they are taken out.
-use Rattle.std.proofs.Common.{◌≡◌, ◌≢◌, ℕ, ◌<◌, ◌≤◌, List, [], ◌∷◌, ◌++◌, Option, Some, None, Bool, true, false, not, ◌&&◌, cond, ◌⊎◌, inl, inr, refl, sym, ◌∙◌, ap, subst, arith, length}
-use Rattle.std.specs.Prelude.{nat_eq, nat_lt, suc}
-use Rattle.std.specs.List.{filter, AllByRecursion}
+use Rattle.std.proofs.Common.{◌≡◌, ◌≢◌, ℕ, ◌-◌, ◌^◌, List, [], ◌∷◌, ◌++◌, Option, Some, None, Bool, true, false, not, ◌&&◌, cond, refl, sym, ◌∙◌, ap, subst, arith, length}
+use Rattle.std.specs.Prelude.{nat_eq, nat_lt, suc, map, slice_get, MatchOption}
+use Rattle.std.specs.List.{filter, zip, AllByRecursion}
 use Rattle.std.specs.Ordering.{is_lt, is_gt}
 use Rattle.std.specs.declared.cmp.Ordering.TheVariants.{Less, Equal, Greater}
-use Rattle.std.specs.Option.{option_copied, option_eq}
+use Rattle.std.specs.Option.{option_eq}
 use Rattle.std.specs.Ordering.{nat_cmp, ordering_then}
 use Rattle.std.specs.declared.cmp.Ordering.{Ordering}
-use Rattle.std.proofs.lemmas.Bool.{eqb-true, eq-eqb}
+use Rattle.std.proofs.lemmas.Bool.{eqb-true, eq-eqb, lt-ltb, ltb-true, ltb-false}
+use Rattle.std.proofs.lemmas.List.{map-append}
 use Rattle.std.proofs.lemmas.Map.Lookups.{exact_unsigned}
 use denote.Ref.{Bor}
 use Rattle.tf_btree.specs.Rows.{AllAfter, IsRising}
 use Rattle.tf_table.specs.declared.key.Key.{Key}
 use Rattle.tf_table.specs.declared.span.Span.{Span}
 use Rattle.tf_table.specs.Key.{key_cmp}
+use Rattle.tf_table.specs.declared.column.Column.{Column}
+use Rattle.tf_table.specs.Column.{AreRuns, column_of}
 use Rattle.tf_table.specs.Content.{entry_at, first_some}
 use Rattle.tf_table.specs.Merge.{seen}
 use Rattle.tf_table.specs.Span.{timestamps}
@@ -23,17 +26,63 @@ use Rattle.tf_table.proofs.Determined.{bool_cases, IsRising-filter, first_some-n
 use Rattle.tf_manifest.specs.Rows.{key_of}
 use Rattle.tf_scan.specs.declared.direction.Direction.{Direction}
 use Rattle.tf_scan.specs.declared.direction.Direction.TheVariants.{Rising, Falling}
-use Rattle.tf_scan.specs.declared.place.Front.{Front}
 use Rattle.tf_scan.specs.declared.place.Place.{Place}
 use Rattle.tf_scan.specs.declared.place.Place.TheVariants.{Closed, Open, End}
 use Rattle.tf_scan.specs.Order.{is_before, AllBehind}
 use Rattle.tf_scan.specs.Sets.{is_among}
-use Rattle.tf_scan.specs.Place.{rows_within, rows_left, first_of, nearest_in, is_past, is_within, IsFrom, IsAt, IsHead, IsPlace, IsTaken, rows_behind, Keeps, steps_left, IsSearched, HasRows, Opens, Takes, Seeks}
-use Rattle.tf_scan.proofs.Order.{before-self, before-asym, before-total, before-past}
+use Rattle.tf_scan.specs.Place.{rows_within, rows_left, span_from, last_in, first_in, nearest_in, is_past, is_within, IsFrom, IsAt, IsPlace, IsTaken, rows_behind, Keeps, opened, Takes, Seeks}
+use Rattle.tf_scan.proofs.Order.{before-self, before-asym, before-total, before-trans, before-past}
 use Rattle.tf_scan.proofs.Members.{false_true, among-self, behind-among}
 use Rattle.tf_scan.proofs.Entries.{below_is, entry-other, entry-here, entry-absent, entry-from, entry-upto, entry-within, both}
 
+-- ---- the timestamp that comes first
+
+last-push : (t : ℕ) (ts : List ℕ) → last_in (ts ++ t ∷ []) ≡ Some t
+last-push t [] = refl
+last-push t (u ∷ []) = refl
+last-push t (u ∷ w ∷ ts) = last-push t (w ∷ ts)
+
+pub first-taken : (d : Direction) (t : ℕ) (old new : List ℕ) → IsTaken d t old new → first_in d old ≡ Some t
+first-taken Rising t old new e = ap (λ (ts : List ℕ). slice_get ts 0) e
+first-taken Falling t old new e = ap last_in e ∙ last-push t new
+
+pub first-empty : (d : Direction) → first_in d [] ≡ None
+first-empty Rising = refl
+first-empty Falling = refl
+
+-- the timestamp of what was taken is the one that comes first
+pub time-taken : {X : Type 0} (time : X → ℕ) (d : Direction) (x : X) (old new : List X) → IsTaken d x old new → first_in d (map time old) ≡ Some (time x)
+time-taken time d x old new e = first-taken d (time x) (map time old) (map time new) (by d e)
+  where
+    by : (d : Direction) → IsTaken d x old new → IsTaken d (time x) (map time old) (map time new)
+    by Rising e = ap (map time) e
+    by Falling e = ap (map time) e ∙ map-append time new (x ∷ [])
+
+-- some come first, where there are some
+first-split : {X : Type 0} (d : Direction) (x : X) (xs : List X) → (y : X) × (others : List X) × IsTaken d y (x ∷ xs) others
+first-split Rising x xs = (x, xs, refl)
+first-split Falling x [] = (x, [], refl)
+first-split Falling x (y ∷ ys) = let s = first-split Falling y ys in (s.0, x ∷ s.1, ap (λ zs. x ∷ zs) s.2)
+
+times-zip : {E : Type 0} (keys : List Key) (entries : List E) → length entries ≡ length keys → timestamps (zip keys entries) ≡ map (λ (key : Key). key.timestamp) keys
+times-zip [] [] l = refl
+times-zip [] (e ∷ entries) l = refl
+times-zip (k ∷ keys) [] l = absurd (omega (arith, l))
+times-zip (k ∷ keys) (e ∷ entries) l = ap (λ (ts : List ℕ). k.timestamp ∷ ts) (times-zip keys entries (omega (arith, l)))
+
+-- the keys of rows have the timestamps of the rows
+pub times-runs : {V : Type 0} (keys : List Key) (entries : Column V) (rows : List (Key × Option V)) → AreRuns keys entries rows → timestamps rows ≡ map (λ (key : Key). key.timestamp) keys
+times-runs keys entries rows r =
+    sym (ap (λ (rs : List _). timestamps rs) r.together)
+    ∙ times-zip keys (column_of (length keys) entries) (omega (arith, r.as_many_keys, r.as_many_entries))
+
 -- ---- the row that comes first
+
+-- the row is one of the value and comes before the others
+pub record IsHead {E : Type 0} (d : Direction) (value : ℕ) (row : Key × E) (rows : List (Key × E)) : Type 0 where
+  pub here : row.0.value ≡ value
+  pub behind : AllBehind d row.0.timestamp (timestamps rows)
+  pub others : IsAt value rows
 
 -- keys of one value rise with their timestamps
 less_is : (j k : Key) (v : ℕ) → j.value ≡ v → k.value ≡ v → key_cmp j k ≡ Less → nat_lt j.timestamp k.timestamp ≡ true
@@ -133,14 +182,6 @@ module _ {E : Type 0} where
       step true i = (h.0, i)
       step false i = i
 
-  behind-kept : (d : Direction) (t : ℕ) (p : Key × E → Bool) (rows : List (Key × E)) → AllBehind d t (timestamps rows) → AllBehind d t (timestamps (filter p rows))
-  behind-kept d t p [] h = tt
-  behind-kept d t p (r ∷ rows) h = step (p r) (behind-kept d t p rows h.1)
-    where
-      step : (b : Bool) → AllBehind d t (timestamps (filter p rows)) → AllBehind d t (timestamps (cond b (r ∷ filter p rows) (filter p rows)))
-      step true i = (h.0, i)
-      step false i = i
-
   both-pass : (P Q R : Key × E → Type 0) → ((r : Key × E) → P r → Q r → R r) → (rows : List (Key × E)) → AllByRecursion P rows → AllByRecursion Q rows → AllByRecursion R rows
   both-pass P Q R f [] h k = tt
   both-pass P Q R f (r ∷ rows) h k = (f r h.0 k.0, both-pass P Q R f rows h.1 k.1)
@@ -148,13 +189,10 @@ module _ {E : Type 0} where
   is_at-filter : (v : ℕ) (p : Key × E → Bool) (rows : List (Key × E)) → IsAt v rows → IsAt v (filter p rows)
   is_at-filter v p rows h = record { rising = IsRising-filter key_cmp keys_total exact_keys p rows h.rising; values = kept (λ r. r.0.value ≡ v) p rows h.values }
 
-  head-filter : (d : Direction) (v : ℕ) (p : Key × E → Bool) (r : Key × E) (rows : List (Key × E)) → IsHead d v r rows → IsHead d v r (filter p rows)
-  head-filter d v p r rows h = record { here = h.here; behind = behind-kept d r.0.timestamp p rows h.behind; others = is_at-filter v p rows h.others }
-
-  -- the head stays the first where rows behind it go
-  pub head-behind : (d : Direction) (v : ℕ) (key : Key) (r : Key × E) (rows : List (Key × E)) → IsHead d v r rows → IsHead d v r (rows_behind d key rows)
-  head-behind Rising v key r rows h = head-filter Rising v (λ s. not (is_lt (key_cmp s.0 key))) r rows h
-  head-behind Falling v key r rows h = head-filter Falling v (λ s. not (is_gt (key_cmp s.0 key))) r rows h
+  -- rows of one value stay so where some go
+  pub is_at-behind : (d : Direction) (v : ℕ) (key : Key) (rows : List (Key × E)) → IsAt v rows → IsAt v (rows_behind d key rows)
+  is_at-behind Rising v key rows h = is_at-filter v (λ s. not (is_lt (key_cmp s.0 key))) rows h
+  is_at-behind Falling v key rows h = is_at-filter v (λ s. not (is_gt (key_cmp s.0 key))) rows h
 
 pub between : (o a b : Ordering) → not (is_lt (ordering_then o a)) ≡ true → not (is_gt (ordering_then o b)) ≡ true → o ≡ Equal
 between Less a b e f = false_true e
@@ -175,17 +213,35 @@ is_at-within {V} v span rows rising =
 
 -- ---- places
 
-module _ (d : Direction) where
-  outside : (span : Span) (u : ℕ) → is_before d u (first_of d span) ≡ true → is_within (Some span) u ≡ false
-  outside span u b = by d b
-    where
-      and_not : (a b : Bool) → b ≡ true → (a && not b) ≡ false
-      and_not true b e = ap not e
-      and_not false b e = refl
+and-not : (a b : Bool) → b ≡ true → (a && not b) ≡ false
+and-not true b e = ap not e
+and-not false b e = refl
 
-      by : (d : Direction) → is_before d u (first_of d span) ≡ true → is_within (Some span) u ≡ false
-      by Rising b = ap (λ c. not c && not (nat_lt span.latest u)) b
-      by Falling b = and_not (not (nat_lt u span.earliest)) (nat_lt span.latest u) b
+module _ (d : Direction) where
+  outside : (bound u : ℕ) → is_before d u bound ≡ true → is_within (span_from d bound) u ≡ false
+  outside bound u b = by d b
+    where
+      by : (d : Direction) → is_before d u bound ≡ true → is_within (span_from d bound) u ≡ false
+      by Rising b = ap (λ c. not c && not (nat_lt (2 ^ 64 - 1) u)) b
+      by Falling b = and-not (not (nat_lt u 0)) (nat_lt bound u) b
+
+  -- of the timestamps from one on those from a later one on
+  narrowed : (bound t u : ℕ) → is_before d bound t ≡ true → is_within (span_from d t) u ≡ (is_within (span_from d bound) u && not (is_before d u t))
+  narrowed bound t u b = by d (λ n. bool_cases (is_before d u bound) (λ c. false_true (sym n ∙ before-trans d u bound t c b)) (λ c. c))
+    where
+      rising : (a c m : Bool) → (a ≡ false → c ≡ false) → (not a && not m) ≡ ((not c && not m) && not a)
+      rising true c m h = sym (and-not (not c && not m) true refl)
+      rising false c true h = rw (h refl) refl
+      rising false c false h = rw (h refl) refl
+
+      falling : (a c m : Bool) → (a ≡ false → c ≡ false) → (not m && not a) ≡ ((not m && not c) && not a)
+      falling true c m h = and-not (not m) true refl ∙ sym (and-not (not m && not c) true refl)
+      falling false c true h = refl
+      falling false c false h = rw (h refl) refl
+
+      by : (d : Direction) → (is_before d u t ≡ false → is_before d u bound ≡ false) → is_within (span_from d t) u ≡ (is_within (span_from d bound) u && not (is_before d u t))
+      by Rising h = rising (nat_lt u t) (nat_lt u bound) (nat_lt (2 ^ 64 - 1) u) h
+      by Falling h = falling (nat_lt t u) (nat_lt bound u) (nat_lt u 0) h
 
   -- a timestamp that the nearest one neither is nor comes before
   past : (t : ℕ) (n : Option ℕ) → IsFrom d t n → n ≢ Some t → is_past d t n ≡ true
@@ -220,8 +276,8 @@ module _ {V : Type 0} (v : ℕ) where
   only t rows e u i = ap (λ w. entry_at (key_of v w) rows) (eqb-true u t (not-false (nat_eq u t) i)) ∙ e
 
 module _ {V : Type 0} (d : Direction) (v : ℕ) where
-  within-keeps : (t : ℕ) (span : Span) (b : Bool) (u : ℕ) (x : Option (Option V)) → b ≡ (is_within (Some span) u && not (is_before d u t)) → cond b x None ≡ cond (not (is_before d u t)) (cond (is_within (Some span) u) x None) None
-  within-keeps t span b u x w = ap (λ a. cond a x None) w ∙ sym (both (is_within (Some span) u) (not (is_before d u t)) x)
+  within-keeps : (t : ℕ) (span : Span) (b : Bool) (u : ℕ) (x : Option (Option V)) → b ≡ (is_within span u && not (is_before d u t)) → cond b x None ≡ cond (not (is_before d u t)) (cond (is_within span u) x None) None
+  within-keeps t span b u x w = ap (λ a. cond a x None) w ∙ sym (both (is_within span u) (not (is_before d u t)) x)
 
   entry-behind : (t u : ℕ) (rows : List (Key × Option V)) → entry_at (key_of v u) (rows_behind d (key_of v t) rows) ≡ cond (not (is_before d u t)) (entry_at (key_of v u) rows) None
   entry-behind t u rows = by d
@@ -230,37 +286,67 @@ module _ {V : Type 0} (d : Direction) (v : ℕ) where
       by Rising = entry-from v t u rows
       by Falling = entry-upto v t u rows
 
+module _ {V : Type 0} (d : Direction) (v : ℕ) where
+  -- no row comes before the one that comes first
+  first-open : (rows : List (Key × Option V)) → IsAt v rows → (u : ℕ) → is_past d u (first_in d (timestamps rows)) ≡ true → entry_at (key_of v u) rows ≡ None
+  first-open [] h u b = refl
+  first-open (x ∷ xs) h u b =
+      let s = first-split d x xs in
+      let time = time-taken (λ (r : Key × Option V). r.0.timestamp) d s.0 (x ∷ xs) s.1 s.2 in
+      sym (taken-same v d s.0 (x ∷ xs) s.1 h s.2 u)
+      ∙ head-first v d s.0 s.1 (taken-head d v s.0 (x ∷ xs) s.1 h s.2) u (subst (λ n. is_past d u n ≡ true) time b)
+
+  pub row-entry : (row : Key × Option V) (rows others : List (Key × Option V)) → IsAt v rows → IsTaken d row rows others → entry_at (key_of v row.0.timestamp) rows ≡ Some row.1
+  row-entry row rows others h e = sym (taken-same v d row rows others h e row.0.timestamp) ∙ entry-here v row others (taken-head d v row rows others h e).here
+
 module _ {V A : Type 0} (d : Direction) (v : ℕ) where
   -- no row comes before the nearest timestamp
-  pub place-first : (p : Place V A) → IsPlace d v p → (u : ℕ) → is_past d u (nearest_in d p) ≡ true → entry_at (key_of v u) (rows_left v p) ≡ None
-  place-first (Closed table span) h u b = entry-within v span u table.now ∙ ap (λ c. cond c (entry_at (key_of v u) table.now) None) (outside d span u b)
-  place-first (Open front) h u b = head-first v d (seen front.row) front.others h u b
+  pub place-first : (p : Place V A) → IsPlace d v p → (u : ℕ) → is_past d u (nearest_in d p) ≡ true → entry_at (key_of v u) (rows_left d v p) ≡ None
+  place-first (Closed table bound) h u b = entry-within v (span_from d bound) u table.now ∙ ap (λ c. cond c (entry_at (key_of v u) table.now) None) (outside d bound u b)
+  place-first (Open rows) h u b = first-open d v rows h u b
   place-first End h u b = refl
 
-  -- ---- a searched table, and the next row of it
+  -- ---- a searched table
 
-  pub has-some : (rows : List (Key × Option V)) (front : Front V A) → IsAt v rows → IsTaken d (seen front.row) rows front.others → HasRows d v rows (Open front)
-  has-some rows front h e = record { right = taken-head d v (seen front.row) rows front.others h e; same = taken-same v d (seen front.row) rows front.others h e; steps = taken-length d (seen front.row) rows front.others e; searched = tt }
+  pub opened-right : (p : Place V A) → IsPlace d v p → IsPlace d v (opened d v p)
+  opened-right (Closed table bound) h = is_at-within v (span_from d bound) table.now h
+  opened-right (Open rows) h = h
+  opened-right End h = tt
 
-  pub has-none : (rows : List (Key × Option V)) → rows ≡ [] → HasRows {V = V} {A = A} d v rows End
-  has-none rows e = rw e record { right = tt; same = λ u. refl; steps = refl; searched = tt }
+  pub opened-same : (p : Place V A) → rows_left d v (opened d v p) ≡ rows_left d v p
+  opened-same (Closed table bound) = refl
+  opened-same (Open rows) = refl
+  opened-same End = refl
 
-  -- what a place is once its table was searched
-  pub record IsOpened (old mid : Place V A) : Type 0 where
-    pub right : IsPlace d v mid
-    pub same : (u : ℕ) → entry_at (key_of v u) (rows_left v mid) ≡ entry_at (key_of v u) (rows_left v old)
-    pub steps : steps_left v mid ≤ steps_left v old
-    pub fewer : (steps_left v mid < steps_left v old) ⊎ (mid ≡ old)
-    pub searched : IsSearched mid
+  -- what is taken out once the table was searched
+  pub opened-takes : (old new : Place V A) (t : ℕ) → Takes d v t (opened d v old) new → Takes d v t old new
+  opened-takes (Closed table bound) new t k = record { right = k.right; others = k.others; steps = omega (arith, k.steps); fewer = λ _. omega (arith, k.steps) }
+  opened-takes (Open rows) new t k = k
+  opened-takes End new t k = k
 
-  pub is_opened : (old mid : Place V A) → IsPlace d v old → Opens d v old mid → IsOpened old mid
-  is_opened (Closed table span) mid h o = record { right = o.right; same = o.same; steps = omega (arith, o.steps); fewer = inl (omega (arith, o.steps)); searched = o.searched }
-  is_opened (Open front) mid h o = rw o record { right = h; same = λ u. refl; steps = omega arith; fewer = inr refl; searched = tt }
-  is_opened End mid h o = rw o record { right = tt; same = λ u. refl; steps = omega arith; fewer = inr refl; searched = tt }
+  -- where the nearest timestamp was that of a search, no row comes before it
+  pub opened-from : (p : Place V A) (t : ℕ) → IsPlace d v p → nearest_in d p ≡ Some t → IsFrom d t (nearest_in d (opened d v p))
+  opened-from (Open rows) t h e = subst (IsFrom d t) (sym e) (before-self d t)
+  opened-from End t h e = tt
+  opened-from (Closed table bound) t h e = by (rows_left {V = V} {A = A} d v (Closed table bound)) refl
+    where
+      same : Some bound ≡ Some t → bound ≡ t
+      same i = cc
+
+      by : (rows : List (Key × Option V)) → rows ≡ rows_left {V = V} {A = A} d v (Closed table bound) → IsFrom d t (first_in d (timestamps rows))
+      by [] i = subst (IsFrom d t) (sym (first-empty d)) tt
+      by (x ∷ xs) i =
+          let s = first-split d x xs in
+          let u = s.0.0.timestamp in
+          let at : IsAt v (x ∷ xs) = subst (λ (rows : List (Key × Option V)). IsAt v rows) (sym i) (is_at-within v (span_from d bound) table.now h) in
+          let there : entry_at (key_of v u) (x ∷ xs) ≡ Some s.0.1 = sym (taken-same v d s.0 (x ∷ xs) s.1 at s.2 u) ∙ entry-here v s.0 s.1 (taken-head d v s.0 (x ∷ xs) s.1 at s.2).here in
+          let none : is_before d u t ≡ true → entry_at (key_of v u) (x ∷ xs) ≡ None = λ b. ap (λ (rows : List (Key × Option V)). entry_at (key_of v u) rows) i ∙ place-first (Closed table bound) h u (subst (λ n. is_before d u n ≡ true) (sym (same e)) b) in
+          subst (IsFrom d t) (sym (time-taken (λ (r : Key × Option V). r.0.timestamp) d s.0 (x ∷ xs) s.1 s.2))
+          (bool_cases (is_before d u t) (λ b. absurd (let k : Some s.0.1 ≡ None = sym there ∙ none b in cc)) (λ b. b))
 
   -- ---- a row taken out at a timestamp that no row comes before
 
-  pub take-past-none : (p : Place V A) (t : ℕ) → IsPlace d v p → IsFrom d t (nearest_in d p) → nearest_in d p ≢ Some t → entry_at (key_of v t) (rows_left v p) ≡ None
+  pub take-past-none : (p : Place V A) (t : ℕ) → IsPlace d v p → IsFrom d t (nearest_in d p) → nearest_in d p ≢ Some t → entry_at (key_of v t) (rows_left d v p) ≡ None
   take-past-none p t h f e = place-first p h t (past d t (nearest_in d p) f e)
 
   -- where another timestamp is the nearest one, nothing is taken
@@ -268,103 +354,103 @@ module _ {V A : Type 0} (d : Direction) (v : ℕ) where
   take-past p t h f e =
       record {
         right = h;
-        others = keeps-none v (λ u. not (nat_eq u t)) (rows_left v p) (rows_left v p) (λ u. refl) (only v t (rows_left v p) (take-past-none p t h f e));
+        others = keeps-none v (λ u. not (nat_eq u t)) (rows_left d v p) (rows_left d v p) (λ u. refl) (only v t (rows_left d v p) (take-past-none p t h f e));
         steps = omega arith;
         fewer = λ g. absurd (e g);
       }
 
-  -- where the searched table has no row at the timestamp, that is all that is done
-  open-takes : (old mid : Place V A) (t : ℕ) → IsOpened old mid → entry_at (key_of v t) (rows_left v mid) ≡ None → nearest_in d mid ≢ Some t → Takes d v t old mid
-  open-takes old mid t o e n =
+  -- where a searched table has no row at the timestamp
+  module _ (old mid : Place V A) (t : ℕ) (h : IsPlace d v old) (o : mid ≡ opened d v old) (e : nearest_in d old ≡ Some t) (n : nearest_in d mid ≢ Some t) where
+    mid-right : IsPlace d v mid
+    mid-right = subst (IsPlace d v) (sym o) (opened-right old h)
+
+    mid-from : IsFrom d t (nearest_in d mid)
+    mid-from = subst (λ p. IsFrom d t (nearest_in d p)) (sym o) (opened-from old t h e)
+
+    pub behind-none : entry_at (key_of v t) (rows_left d v old) ≡ None
+    behind-none = sym (ap (λ (rows : List (Key × Option V)). entry_at (key_of v t) rows) (ap (rows_left d v) o ∙ opened-same old)) ∙ take-past-none mid t mid-right mid-from n
+
+    pub behind-takes : Takes d v t old mid
+    behind-takes = opened-takes old mid t (subst (λ p. Takes d v t p mid) o (take-past mid t mid-right mid-from n))
+
+  -- where its next row is the one at the timestamp
+  pub row-takes : (row : Key × Option V) (rows others : List (Key × Option V)) (t : ℕ) → IsAt v rows → IsTaken d row rows others → row.0.timestamp ≡ t → Takes {V = V} {A = A} d v t (Open rows) (Open others)
+  row-takes row rows others t h e i =
+      let head = taken-head d v row rows others h e in
+      let long = taken-length d row rows others e in
       record {
-        right = o.right;
-        others = keeps-none v (λ u. not (nat_eq u t)) (rows_left v old) (rows_left v mid) o.same (only v t (rows_left v old) (sym (o.same t) ∙ e));
-        steps = o.steps;
-        fewer = λ g. elim o.fewer [ inl l ↦ l | inr s ↦ absurd (n (ap (nearest_in d) s ∙ g)) ];
+        right = head.others;
+        others = λ u. head-keeps v d row others head t i u ∙ ap (λ x. cond (not (nat_eq u t)) x None) (taken-same v d row rows others h e u);
+        steps = omega (arith, long);
+        fewer = λ _. omega (arith, long);
       }
 
-  pub end-none : (old mid : Place V A) (t : ℕ) → IsOpened old mid → mid ≡ End → entry_at (key_of v t) (rows_left v old) ≡ None
-  end-none old mid t o e = sym (o.same t) ∙ ap (λ p. entry_at (key_of v t) (rows_left v p)) e
+  module _ (old : Place V A) (row : Key × Option V) (rows others : List (Key × Option V)) (t : ℕ) (h : IsPlace d v old) (o : Open rows ≡ opened d v old) (e : IsTaken d row rows others) (f : first_in d (timestamps rows) ≡ Some t) where
+    at : IsAt v rows
+    at = subst (IsPlace d v) (sym o) (opened-right old h)
 
-  pub end-takes : (old mid : Place V A) (t : ℕ) → IsOpened old mid → mid ≡ End → Takes d v t old mid
-  end-takes old mid t o e = open-takes old mid t o (o.same t ∙ end-none old mid t o e) (λ n. let m : None ≡ Some t = sym (ap (nearest_in d) e) ∙ n in absurd (let k : None ≡ Some t = m in cc))
+    time : row.0.timestamp ≡ t
+    time = same (sym (time-taken (λ (r : Key × Option V). r.0.timestamp) d row rows others e) ∙ f)
+      where
+        same : Some row.0.timestamp ≡ Some t → row.0.timestamp ≡ t
+        same i = cc
 
-  -- a head that isn't at the nearest timestamp comes behind it
-  head-past : (old mid : Place V A) (front : Front V A) (t : ℕ) → IsPlace d v old → IsOpened old mid → mid ≡ Open front → nearest_in d old ≡ Some t → front.row.0.now.timestamp ≢ t → entry_at (key_of v t) (rows_left v mid) ≡ None
-  head-past old mid front t h o m e n =
-      let head : IsHead d v (seen front.row) front.others = subst (IsPlace d v) m o.right in
-      let s = front.row.0.now.timestamp in
-      let there : entry_at (key_of v s) (rows_left v old) ≡ Some (seen front.row).1 = sym (o.same s) ∙ ap (λ p. entry_at (key_of v s) (rows_left v p)) m ∙ entry-here v (seen front.row) front.others head.here in
-      let from : is_before d s t ≡ false = bool_cases (is_before d s t) (λ b. absurd (let none : Some (seen front.row).1 ≡ None = sym there ∙ place-first old h s (subst (λ x. is_past d s x ≡ true) (sym e) b) in cc)) (λ b. b) in
-      let before : is_before d t s ≡ true = bool_cases (is_before d t s) (λ b. b) (λ b. absurd (n (before-total d s t from b))) in
-      ap (λ p. entry_at (key_of v t) (rows_left v p)) m ∙ head-first v d (seen front.row) front.others head t before
+    pub head-takes : Takes d v t old (Open others)
+    head-takes = opened-takes old (Open others) t (subst (λ p. Takes d v t p (Open others)) o (row-takes row rows others t at e time))
 
-  pub behind-none : (old mid : Place V A) (front : Front V A) (t : ℕ) → IsPlace d v old → IsOpened old mid → mid ≡ Open front → nearest_in d old ≡ Some t → front.row.0.now.timestamp ≢ t → entry_at (key_of v t) (rows_left v old) ≡ None
-  behind-none old mid front t h o m e n = sym (o.same t) ∙ head-past old mid front t h o m e n
-
-  pub behind-takes : (old mid : Place V A) (front : Front V A) (t : ℕ) → IsPlace d v old → IsOpened old mid → mid ≡ Open front → nearest_in d old ≡ Some t → front.row.0.now.timestamp ≢ t → Takes d v t old (Open front)
-  behind-takes old mid front t h o m e n =
-      subst (Takes d v t old) m
-      (open-takes old mid t o (head-past old mid front t h o m e n) (λ k. n (same (sym (ap (nearest_in d) m) ∙ k))))
-    where
-      same : Some front.row.0.now.timestamp ≡ Some t → front.row.0.now.timestamp ≡ t
-      same e = cc
-
-  -- the head is the row at the timestamp
-  pub head-entry : (old mid : Place V A) (front : Front V A) (t : ℕ) → IsOpened old mid → mid ≡ Open front → front.row.0.now.timestamp ≡ t → Some (option_copied front.row.1) ≡ entry_at (key_of v t) (rows_left v old)
-  head-entry old mid front t o m e =
-      let head : IsHead d v (seen front.row) front.others = subst (IsPlace d v) m o.right in
-      sym (sym (o.same t) ∙ ap (λ p. entry_at (key_of v t) (rows_left v p)) m ∙ ap (λ u. entry_at (key_of v u) (seen front.row ∷ front.others)) (sym e) ∙ entry-here v (seen front.row) front.others head.here)
-
-  pub head-takes : (old mid new : Place V A) (front : Front V A) (t : ℕ) → IsOpened old mid → mid ≡ Open front → front.row.0.now.timestamp ≡ t → HasRows d v front.others new → Takes d v t old new
-  head-takes old mid new front t o m e r =
-      let head : IsHead d v (seen front.row) front.others = subst (IsPlace d v) m o.right in
-      let long : steps_left v mid ≡ suc (length front.others) = ap (steps_left v) m in
-      record {
-        right = r.right;
-        others = λ u. r.same u ∙ head-keeps v d (seen front.row) front.others head t e u ∙ ap (λ x. cond (not (nat_eq u t)) x None) (sym (ap (λ p. entry_at (key_of v u) (rows_left v p)) m) ∙ o.same u);
-        steps = omega (arith, long, r.steps, o.steps);
-        fewer = λ _. omega (arith, long, r.steps, o.steps);
-      }
+    pub head-entry : Some row.1 ≡ entry_at (key_of v t) (rows_left d v old)
+    head-entry =
+        sym (ap (λ (rs : List (Key × Option V)). entry_at (key_of v t) rs) (sym (opened-same old) ∙ ap (rows_left d v) (sym o))
+        ∙ ap (λ u. entry_at (key_of v u) rows) (sym time)
+        ∙ row-entry d v row rows others at e)
 
   -- ---- a seek
 
-  pub seek-closed : (table : Bor (List (Key × Option V))) (span narrower : Span) (t : ℕ) → IsRising key_cmp table.now → ((u : ℕ) → is_within (Some narrower) u ≡ (is_within (Some span) u && not (is_before d u t))) → Seeks {V = V} {A = A} d v t (Closed table span) (Closed table narrower)
-  seek-closed table span narrower t h w =
-      record {
-        right = h;
-        others = λ u.
-            entry-within v narrower u table.now ∙ within-keeps d v t span (is_within (Some narrower) u) u (entry_at (key_of v u) table.now) (w u)
-            ∙ ap (λ e. cond (not (is_before d u t)) e None) (sym (entry-within v span u table.now));
-      }
+  module _ (table : Bor (List (Key × Option V))) (bound t : ℕ) where
+    pub seek-closed : IsRising key_cmp table.now → is_before d bound t ≡ true → Seeks {V = V} {A = A} d v t (Closed table bound) (Closed table t)
+    seek-closed h b =
+        record {
+          right = h;
+          others = λ u.
+              entry-within v (span_from d t) u table.now
+              ∙ within-keeps d v t (span_from d bound) (is_within (span_from d t) u) u (entry_at (key_of v u) table.now) (narrowed d bound t u b)
+              ∙ ap (λ e. cond (not (is_before d u t)) e None) (sym (entry-within v (span_from d bound) u table.now));
+        }
 
-  pub seek-closed-none : (table : Bor (List (Key × Option V))) (span : Span) (t : ℕ) → ((u : ℕ) → false ≡ (is_within (Some span) u && not (is_before d u t))) → Seeks {V = V} {A = A} d v t (Closed table span) End
-  seek-closed-none table span t w =
-      record {
-        right = tt;
-        others = λ u.
-            within-keeps d v t span false u (entry_at (key_of v u) table.now) (w u)
-            ∙ ap (λ e. cond (not (is_before d u t)) e None) (sym (entry-within v span u table.now));
-      }
+    pub seek-stays : IsRising key_cmp table.now → is_before d bound t ≡ false → Seeks {V = V} {A = A} d v t (Closed table bound) (Closed table bound)
+    seek-stays h n =
+        record {
+          right = h;
+          others = keeps-none v (λ u. not (is_before d u t)) (rows_left {V = V} {A = A} d v (Closed table bound)) (rows_left {V = V} {A = A} d v (Closed table bound)) (λ u. refl)
+              (λ u e. place-first (Closed table bound) h u (before-past d u bound t (not-false (is_before d u t) e) n));
+        }
 
-  -- where the head stays, so does all behind it
-  pub seek-stays : (front : Front V A) (t : ℕ) → IsHead d v (seen front.row) front.others → is_before d front.row.0.now.timestamp t ≡ false → Seeks d v t (Open front) (Open front)
-  seek-stays front t h n =
-      record {
-        right = h;
-        others = keeps-none v (λ u. not (is_before d u t)) (rows_left v (Open front)) (rows_left v (Open front)) (λ u. refl)
-            (λ u e. head-first v d (seen front.row) front.others h u (before-past d u front.row.0.now.timestamp t (not-false (is_before d u t) e) n));
-      }
+    pub seek-ends : ((w u : ℕ) → is_before d u t ≡ false → entry_at (key_of w u) table.now ≡ None) → Seeks {V = V} {A = A} d v t (Closed table bound) End
+    seek-ends n = record { right = tt; others = λ u. step u (is_before d u t) refl }
+      where
+        either : (b : Bool) (x : Option (Option V)) → x ≡ None → cond b x None ≡ None
+        either true x e = e
+        either false x e = refl
 
-  -- where the head goes, the rows behind it are passed over too
-  pub seek-passes : (front : Front V A) (new : Place V A) (t : ℕ) → is_before d front.row.0.now.timestamp t ≡ true → HasRows d v (rows_behind d (key_of v t) front.others) new → Seeks d v t (Open front) new
-  seek-passes front new t b r =
-      record {
-        right = r.right;
-        others = λ u. r.same u ∙ entry-behind d v t u front.others ∙ step u (is_before d u t) refl;
-      }
-    where
-      step : (u : ℕ) (c : Bool) → is_before d u t ≡ c → cond (not c) (entry_at (key_of v u) front.others) None ≡ cond (not c) (entry_at (key_of v u) (seen front.row ∷ front.others)) None
-      step u true i = refl
-      step u false i = sym (entry-other v u (seen front.row) front.others (bool_cases (nat_eq u front.row.0.now.timestamp)
-          (λ e. false_true (sym i ∙ subst (λ w. is_before d w t ≡ true) (sym (eqb-true u front.row.0.now.timestamp e)) b)) (λ e. e)))
+        step : (u : ℕ) (b : Bool) → is_before d u t ≡ b → None ≡ cond (not b) (entry_at (key_of v u) (rows_within v (span_from d bound) table.now)) None
+        step u true i = refl
+        step u false i = sym (entry-within v (span_from d bound) u table.now ∙ either (is_within (span_from d bound) u) (entry_at (key_of v u) table.now) (n v u i))
+
+  pub seek-open : (rows : List (Key × Option V)) (t : ℕ) → IsAt v rows → Seeks {V = V} {A = A} d v t (Open rows) (Open (rows_behind d (key_of v t) rows))
+  seek-open rows t h = record { right = is_at-behind d v (key_of v t) rows h; others = λ u. entry-behind d v t u rows }
+
+-- the next row, where its timestamp is past
+pub row-past : {V : Type 0} (d : Direction) (until : Option ℕ) (t : ℕ) (old new : List (Key × Option V)) (row : Option (Bor Key × Option (Bor V))) → first_in d (timestamps old) ≡ Some t → is_past d t until ≡ true → MatchOption row ((old ≡ []) × (new ≡ [])) (λ r. IsTaken d (seen r) old new)
+    → MatchOption row (new ≡ old) (λ r. IsTaken d (seen r) old new × (is_past d r.0.now.timestamp until ≡ true))
+row-past d until t old new None f p e = e.1 ∙ sym e.0
+row-past {V} d until t old new (Some r) f p e = (e, subst (λ u. is_past d u until ≡ true) (same (sym f ∙ time-taken (λ (s : Key × Option V). s.0.timestamp) d (seen r) old new e)) p)
+  where
+    same : Some t ≡ Some r.0.now.timestamp → t ≡ r.0.now.timestamp
+    same i = cc
+
+-- where a span ends before a timestamp, none of its timestamps is that one or comes behind it
+pub ends-rising : (span : Span) (t u : ℕ) → nat_lt span.latest t ≡ true → nat_lt u t ≡ false → is_within span u ≡ false
+ends-rising span t u a b = and-not (not (nat_lt u span.earliest)) (nat_lt span.latest u) (lt-ltb span.latest u (let e = ltb-true span.latest t a in let f = ltb-false u t b in omega arith))
+
+pub ends-falling : (span : Span) (t u : ℕ) → nat_lt t span.earliest ≡ true → nat_lt t u ≡ false → is_within span u ≡ false
+ends-falling span t u a b = ap (λ c. not c && not (nat_lt span.latest u)) (lt-ltb u span.earliest (let e = ltb-true t span.earliest a in let f = ltb-false t u b in omega arith))

@@ -112,7 +112,7 @@ module _ {V A : Type 0} (d : Direction) (v t : ℕ) where
   later-seeks : (p : Place V A) → IsPlace d v p → is_past d t (nearest_in d p) ≡ true → Seeks d v t p p
   later-seeks p h e = record {
     right = h;
-    others = keeps-none v (λ u. not (is_before d u t)) (rows_left v p) (rows_left v p) (λ u. refl)
+    others = keeps-none v (λ u. not (is_before d u t)) (rows_left d v p) (rows_left d v p) (λ u. refl)
         (λ u b. place-first d v p h u (past-before d u t (nearest_in d p) (not-false (is_before d u t) b) e));
   }
 
@@ -134,13 +134,13 @@ module _ {V A : Type 0} (d : Direction) (v t : ℕ) where
   seeks-one = one-of (Seeks d v t) later-seeks
 
   -- the others have no entry
-  pub entry-one : (i : ℕ) (ps : List (Place V A)) (p : Place V A) → AllByRecursion (IsPlace d v) ps → is_past d t (nearest_but d i ps) ≡ true → i < length ps → get_or ps i p ≡ p → entry_of (key_of v t) (lists_left v ps) ≡ entry_at (key_of v t) (rows_left v p)
+  pub entry-one : (i : ℕ) (ps : List (Place V A)) (p : Place V A) → AllByRecursion (IsPlace d v) ps → is_past d t (nearest_but d i ps) ≡ true → i < length ps → get_or ps i p ≡ p → entry_of (key_of v t) (lists_left d v ps) ≡ entry_at (key_of v t) (rows_left d v p)
   entry-one i [] p h e l is = absurd (omega arith)
   entry-one zero (q ∷ ps) p h e l is =
-      ap (first_some (entry_at (key_of v t) (rows_left v q))) (first-all d v ps h.1 t e)
-      ∙ first_some-none (entry_at (key_of v t) (rows_left v q))
-      ∙ ap (λ o. entry_at (key_of v t) (rows_left v o)) is
+      ap (first_some (entry_at (key_of v t) (rows_left d v q))) (first-all d v ps h.1 t e)
+      ∙ first_some-none (entry_at (key_of v t) (rows_left d v q))
+      ∙ ap (λ o. entry_at (key_of v t) (rows_left d v o)) is
   entry-one (suc i) (q ∷ ps) p h e l is =
       let k = nearer-past d t (nearest_in d q) (nearest_but d i ps) e in
-      ap (λ x. first_some x (entry_of (key_of v t) (lists_left v ps))) (place-first d v q h.0 t k.0)
+      ap (λ x. first_some x (entry_of (key_of v t) (lists_left d v ps))) (place-first d v q h.0 t k.0)
       ∙ entry-one i ps p h.1 k.1 (omega arith) is

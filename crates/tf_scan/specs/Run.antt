@@ -5,7 +5,6 @@ use Rattle.std.specs.declared.cmp.Ordering.TheVariants.{Less}
 use Rattle.tf_table.specs.declared.key.Key.{Key}
 use Rattle.tf_table.specs.Key.{key_cmp}
 use Rattle.tf_table.specs.Content.{values_of}
-use Rattle.tf_table.specs.Merge.{seen}
 use Rattle.tf_table.specs.Span.{timestamps}
 use Rattle.tf_scan.specs.declared.direction.Direction.{Direction}
 use Rattle.tf_scan.specs.declared.direction.Direction.TheVariants.{Rising, Falling}
@@ -14,16 +13,10 @@ use Rattle.tf_scan.specs.declared.place.Place.TheVariants.{Closed, Open, End}
 use Rattle.tf_scan.specs.Place.{lists_left, is_past, IsPlace, IsTaken}
 use Rattle.tf_scan.specs.Prefix.{prefix_of}
 
--- what is left of these rows of a searched table, the first of them as the next row
-abbrev pub IsBehind : {V A : Type 0} → Direction → List (Key × Option V) → Place V A → Type 0
-IsBehind d rows (Closed table span) = ⊥
-IsBehind d rows (Open next) = IsTaken d (seen next.row) rows next.others
-IsBehind d rows End = rows ≡ []
-
--- the next row was taken out, which is this one and comes before the timestamp, if there is one
+-- the next row was taken out of a searched table, which is this one and comes before the timestamp, if there is one
 abbrev pub IsStep : {V A : Type 0} → Direction → Option ℕ → Key × Option V → Place V A → Place V A → Type 0
-IsStep d until row (Closed table span) new = ⊥
-IsStep d until row (Open front) new = (row ≡ seen front.row) × (is_past d row.0.timestamp until ≡ true) × IsBehind d front.others new
+IsStep d until row (Closed table bound) new = ⊥
+IsStep {V} d until row (Open rows) new = (others : List (Key × Option V)) × (new ≡ Open others) × IsTaken d row rows others × (is_past d row.0.timestamp until ≡ true)
 IsStep d until row End new = ⊥
 
 -- these rows were taken out in turn
@@ -92,5 +85,5 @@ pub record WritesRun {V A : Type 0} (d : Direction) (until : Option ℕ) (from t
 pub record WritesPrefix {V A : Type 0} (d : Direction) (value from to : ℕ) (old new : List (Place V A)) (out_old out_new : List ℕ) : Type 0 where
   pub ts : List ℕ
   pub right : AllByRecursion (IsPlace d value) new
-  pub front : prefix_of d value (lists_left value old) ≡ ts ++ prefix_of d value (lists_left value new)
+  pub front : prefix_of d value (lists_left d value old) ≡ ts ++ prefix_of d value (lists_left d value new)
   pub written : AreWritten ts from to out_old out_new

@@ -10,6 +10,7 @@ mod place;
 mod places;
 mod posting_list;
 mod prefix;
+mod rows;
 mod run;
 mod scan;
 #[cfg(test)]

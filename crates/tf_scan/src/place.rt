@@ -1,38 +1,29 @@
 //! What is left of one table in a prefix.
-ghost use Rattle.std.specs.Prelude.{◌≡◌, ◌≤◌, not, ◌&&◌, ℕ, [], length, MatchOption};
+ghost use Rattle.std.specs.Prelude.{◌≡◌, ◌≤◌, ℕ, true, false, length, None, IsTrue};
 ghost use Rattle.std.specs.Option.{option_copied, option_map};
 ghost use Rattle.tf_table.specs.Content.{entry_at};
-ghost use Rattle.tf_table.specs.Merge.{seen};
 ghost use Rattle.tf_manifest.specs.Rows.{key_of};
-ghost use Rattle.tf_scan.specs.declared.direction.Direction as declared;
 ghost use Rattle.tf_scan.specs.declared.place.Place.TheVariants.{End};
 ghost use Rattle.tf_scan.specs.Order.{is_before};
-ghost use Rattle.tf_scan.specs.Place.{rows_left, nearest_in, is_within, IsAt, IsFrom, IsPlace, IsTaken, rows_behind, Opens, Advances, Takes, Seeks};
+ghost use Rattle.tf_scan.specs.Place.{rows_left, first_of, span_from, nearest_in, opened, IsFrom, IsPlace, Takes, Seeks};
 ghost use Rattle.tf_scan.specs.Run.{WritesRun};
 
 use crate::Direction;
+use crate::rows::{first, first_timestamp, seek};
 use crate::run::take_rows;
 use crate::turn::Turn;
 use std::alloc::Allocator;
-use std::mem;
-use tf_table::{Cursor, Key, Row, Sealed, Span};
+use tf_table::{Cursor, Key, Sealed, Span};
 
 /// The rows of one table that are still to come, of one value and in one direction.
 #[derive(Drop)]
 pub(crate) enum Place<'r, V, A: Allocator> {
-    /// The table wasn't searched yet. The timestamps of the rows lie in the span.
-    Closed(&'r Sealed<V, A>, Span),
-    /// The table was searched.
-    Open(Front<'r, V, A>),
+    /// The table wasn't searched yet. The timestamps of the rows don't come before this one.
+    Closed(&'r Sealed<V, A>, u64),
+    /// The table was searched, and these are the rows.
+    Open(Cursor<'r, V, A>),
     /// There is none.
     End,
-}
-
-/// The rows of a table that was searched: the next one, and the others.
-#[derive(Drop)]
-pub(crate) struct Front<'r, V, A: Allocator> {
-    pub(crate) row: Row<'r, V>,
-    pub(crate) others: Cursor<'r, V, A>,
 }
 
 impl<'r, V, A: Allocator> Default for Place<'r, V, A> {
@@ -45,16 +36,16 @@ impl<'r, V, A: Allocator> Default for Place<'r, V, A> {
 
 impl<'r, V, A: Allocator> Place<'r, V, A> {
     /// The rows of a table. It isn't searched yet.
-    pub(crate) fn new(table: &'r Sealed<V, A>) -> Self
-        ensures right { (d : declared.Direction) (value : ℕ) → IsPlace d value result }
-        ensures rows { (value t : ℕ) → entry_at (key_of value t) (rows_left value result) ≡ entry_at (key_of value t) table.now }
+    pub(crate) fn new(direction: Direction, table: &'r Sealed<V, A>) -> Self
+        ensures right { (value : ℕ) → IsPlace direction value result }
+        ensures rows { (value t : ℕ) → entry_at (key_of value t) (rows_left direction value result) ≡ entry_at (key_of value t) table.now }
     {
         // `len` tells the proof that the rows rise.
         if table.len() == 0 {
             return Place::End;
         }
         match table.span() {
-            Some(span) => Place::Closed(table, span),
+            Some(span) => Place::Closed(table, start(direction, span)),
             None => Place::End,
         }
     }
@@ -65,11 +56,8 @@ impl<'r, V, A: Allocator> Place<'r, V, A> {
         ensures { result ≡ nearest_in direction self.now }
     {
         match self {
-            Place::Closed(_, span) => Some(match direction {
-                Direction::Rising => span.earliest,
-                Direction::Falling => span.latest,
-            }),
-            Place::Open(front) => Some(front.row.0.timestamp),
+            Place::Closed(_, bound) => Some(*bound),
+            Place::Open(rows) => first_timestamp(direction, rows),
             Place::End => None,
         }
     }
@@ -85,21 +73,20 @@ impl<'r, V, A: Allocator> Place<'r, V, A> {
     ) -> Option<Option<&'r V>>
         requires right { IsPlace direction value self.old }
         requires nearest { IsFrom direction timestamp (nearest_in direction self.old) }
-        ensures entry { option_map option_copied result ≡ entry_at (key_of value timestamp) (rows_left value self.old) }
+        ensures entry { option_map option_copied result ≡ entry_at (key_of value timestamp) (rows_left direction value self.old) }
         ensures taken { Takes direction value timestamp self.old self.new }
     {
         if self.nearest(direction) != Some(timestamp) {
             return None;
         }
         self.open(direction, value);
-        let Place::Open(front) = self else {
+        let Place::Open(rows) = self else {
             return None;
         };
-        if front.row.0.timestamp != timestamp {
+        if first_timestamp(direction, rows) != Some(timestamp) {
             return None;
         }
-        let entry = front.row.1;
-        self.advance(direction);
+        let (_key, entry) = first(direction, rows)?;
         Some(entry)
     }
 
@@ -111,22 +98,23 @@ impl<'r, V, A: Allocator> Place<'r, V, A> {
         ensures { Seeks direction value timestamp self.old self.new }
     {
         match self {
-            Place::Closed(_, span) => match narrowed(direction, *span, timestamp) {
-                Some(narrower) => *span = narrower,
-                None => *self = Place::End,
-            },
-            Place::Open(front) => {
-                if direction.is_before(front.row.0.timestamp, timestamp) {
-                    pass(direction, &mut front.others, &Key { value, timestamp });
-                    self.advance(direction);
+            Place::Closed(table, bound) => {
+                if direction.is_before(*bound, timestamp) {
+                    if ends_before(direction, table, timestamp) {
+                        *self = Place::End;
+                    } else {
+                        *bound = timestamp;
+                    }
                 }
             }
+            Place::Open(rows) => seek(direction, rows, &Key { value, timestamp }),
             Place::End => {}
         }
     }
 
     /// Takes out rows as long as the turn lasts and there is room in `out`, writes the timestamps of those with a value
     /// there from one place on, and tells the place behind the last. It takes none where the table wasn't searched.
+    #[inline]
     pub(crate) fn take_run(
         &mut self,
         direction: Direction,
@@ -137,25 +125,18 @@ impl<'r, V, A: Allocator> Place<'r, V, A> {
         requires { from ≤ length out.old }
         ensures { WritesRun direction turn.until from result self.old self.new out.old out.new }
     {
-        match mem::replace(self, Place::End) {
-            Place::Open(front) => {
-                let (rest, to) = take_rows(direction, turn, front, out, from);
-                *self = rest;
-                to
-            }
-            other => {
-                *self = other;
-                from
-            }
+        match self {
+            Place::Open(rows) => take_rows(direction, turn, rows, out, from),
+            _ => from,
         }
     }
 
     /// Searches the table, if that wasn't done.
     fn open(&mut self, direction: Direction, value: u128)
-        requires { IsPlace direction value self.old }
-        ensures { Opens direction value self.old self.new }
+        ensures { self.new ≡ opened direction value self.old }
     {
-        if let Place::Closed(table, span) = self {
+        if let Place::Closed(table, bound) = self {
+            let span = span_from(direction, *bound);
             let from = Key {
                 value,
                 timestamp: span.earliest,
@@ -164,67 +145,47 @@ impl<'r, V, A: Allocator> Place<'r, V, A> {
                 value,
                 timestamp: span.latest,
             };
-            let mut rows = table.range(&from, &to);
-            *self = match first(direction, &mut rows) {
-                Some(row) => Place::Open(Front { row, others: rows }),
-                None => Place::End,
-            };
-        }
-    }
-
-    /// Takes out the next row, if the table was searched.
-    fn advance(&mut self, direction: Direction)
-        ensures { (value : ℕ) → IsPlace direction value self.old → Advances direction value self.old self.new }
-    {
-        if let Place::Open(front) = self {
-            match first(direction, &mut front.others) {
-                Some(row) => front.row = row,
-                None => *self = Place::End,
-            }
+            *self = Place::Open(table.range(&from, &to));
         }
     }
 }
 
-/// Takes out the row that comes first.
+/// The timestamp of a span that comes first.
 #[inline]
-pub(crate) fn first<'r, V, A: Allocator>(
-    direction: Direction,
-    rows: &mut Cursor<'r, V, A>,
-) -> Option<Row<'r, V>>
-    ensures { MatchOption result ((rows.old ≡ []) × (rows.new ≡ [])) (λ row. IsTaken direction (seen row) rows.old rows.new) }
+fn start(direction: Direction, span: Span) -> u64
+    ensures { result ≡ first_of direction span }
 {
     match direction {
-        Direction::Rising => rows.next(),
-        Direction::Falling => rows.next_back(),
+        Direction::Rising => span.earliest,
+        Direction::Falling => span.latest,
     }
 }
 
-/// Passes over the rows that come before the key.
+/// The timestamps that don't come before this one.
 #[inline]
-fn pass<V, A: Allocator>(direction: Direction, rows: &mut Cursor<'_, V, A>, key: &Key)
-    ensures { rows.new ≡ rows_behind direction key.now rows.old }
+fn span_from(direction: Direction, timestamp: u64) -> Span
+    ensures { result ≡ span_from direction timestamp }
 {
     match direction {
-        Direction::Rising => rows.seek(key),
-        Direction::Falling => rows.seek_back(key),
+        Direction::Rising => Span {
+            earliest: timestamp,
+            latest: u64::MAX,
+        },
+        Direction::Falling => Span {
+            earliest: 0,
+            latest: timestamp,
+        },
     }
 }
 
-/// What a span has of timestamps that don't come before this one, if there may be some.
+/// Whether all timestamps of a table come before this one.
 #[inline]
-fn narrowed(direction: Direction, span: Span, timestamp: u64) -> Option<Span>
-    ensures { (u : ℕ) → is_within result u ≡ (is_within (Some span) u && not (is_before direction u timestamp)) }
+fn ends_before<V, A: Allocator>(direction: Direction, table: &Sealed<V, A>, timestamp: u64) -> bool
+    ensures { IsTrue result → (value u : ℕ) → is_before direction u timestamp ≡ false → entry_at (key_of value u) table.now ≡ None }
 {
-    match direction {
-        Direction::Rising if span.latest < timestamp => None,
-        Direction::Rising => Some(Span {
-            earliest: span.earliest.max(timestamp),
-            latest: span.latest,
-        }),
-        Direction::Falling if timestamp < span.earliest => None,
-        Direction::Falling => Some(Span {
-            earliest: span.earliest,
-            latest: span.latest.min(timestamp),
-        }),
+    match (table.span(), direction) {
+        (Some(span), Direction::Rising) => span.latest < timestamp,
+        (Some(span), Direction::Falling) => timestamp < span.earliest,
+        (None, _) => true,
     }
 }

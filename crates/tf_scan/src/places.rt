@@ -29,8 +29,8 @@ pub(crate) fn next<V, A: Allocator>(
     requires turn { IsTurn direction turn.old places.old }
     ensures right { AllByRecursion (IsPlace direction value) places.new }
     ensures turn { IsTurn direction turn.new places.new }
-    ensures first { result ≡ slice_get (prefix_of direction value (lists_left value places.old)) 0 }
-    ensures others { prefix_of direction value (lists_left value places.new) ≡ drop 1 (prefix_of direction value (lists_left value places.old)) }
+    ensures first { result ≡ slice_get (prefix_of direction value (lists_left direction value places.old)) 0 }
+    ensures others { prefix_of direction value (lists_left direction value places.new) ≡ drop 1 (prefix_of direction value (lists_left direction value places.old)) }
 {
     while let Some(timestamp) = turn.nearest(direction, places) {
         let entry = take(direction, value, timestamp, places, turn);
@@ -56,9 +56,9 @@ pub(crate) fn take_into<V, A: Allocator>(
     requires turn { IsTurn direction turn.old places.old }
     ensures right { AllByRecursion (IsPlace direction value) places.new }
     ensures turn { IsTurn direction turn.new places.new }
-    ensures count { result ≡ min (length out.old) (length (prefix_of direction value (lists_left value places.old))) }
-    ensures moved { out.new ≡ take result (prefix_of direction value (lists_left value places.old)) ++ drop result out.old }
-    ensures others { prefix_of direction value (lists_left value places.new) ≡ drop result (prefix_of direction value (lists_left value places.old)) }
+    ensures count { result ≡ min (length out.old) (length (prefix_of direction value (lists_left direction value places.old))) }
+    ensures moved { out.new ≡ take result (prefix_of direction value (lists_left direction value places.old)) ++ drop result out.old }
+    ensures others { prefix_of direction value (lists_left direction value places.new) ≡ drop result (prefix_of direction value (lists_left direction value places.old)) }
 {
     let mut taken = 0;
     while taken < out.len() {
@@ -139,7 +139,7 @@ fn take<'r, V, A: Allocator>(
     requires right { AllByRecursion (IsPlace direction value) places.old }
     requires turn { IsTurn direction turn.old places.old }
     requires nearest { Some timestamp ≡ nearest_of direction places.old }
-    ensures entry { option_map option_copied result ≡ entry_of (key_of value timestamp) (lists_left value places.old) }
+    ensures entry { option_map option_copied result ≡ entry_of (key_of value timestamp) (lists_left direction value places.old) }
     ensures taken { AllZip (Takes direction value timestamp) places.old places.new }
     ensures turn { IsTurn direction turn.new places.new }
 {
@@ -180,7 +180,7 @@ fn take_all<'r, V, A: Allocator>(
 ) -> Option<Option<&'r V>>
     requires right { AllByRecursion (IsPlace direction value) places.old }
     requires nearest { AllByRecursion (λ place. IsFrom direction timestamp (nearest_in direction place)) places.old }
-    ensures entry { option_map option_copied result ≡ entry_of (key_of value timestamp) (lists_left value places.old) }
+    ensures entry { option_map option_copied result ≡ entry_of (key_of value timestamp) (lists_left direction value places.old) }
     ensures taken { AllZip (Takes direction value timestamp) places.old places.new }
 {
     let mut newest = None;

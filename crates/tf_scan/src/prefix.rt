@@ -17,7 +17,7 @@ use tf_manifest::{Naming, RowValue, Tables};
 /// the key of the value and t.
 ///
 /// A contract sees it as its direction and the timestamps that are still to come. For each of the tables, at most 64, it
-/// has a place in itself, so it takes no memory and has some 3,600 bytes. A table is searched only once its span of
+/// has a place in itself, so it takes no memory and has some 2,100 bytes. A table is searched only once its span of
 /// timestamps begins at the nearest one: of tables that follow each other in time, a few timestamps search one or two.
 #[derive(Drop)]
 pub struct Prefix<'r, V, A: Allocator> {
@@ -37,7 +37,7 @@ impl<'r, V, A: Allocator> Model for Prefix<'r, V, A> {
     ghost use Rattle.tf_scan.specs.Place.{lists_left, IsPlace};
     ghost use Rattle.tf_scan.specs.Turn.{IsTurn};
 
-    ghost view = { λ p. record { direction = p.direction; left = prefix_of p.direction p.value (lists_left p.value p.places.items) } };
+    ghost view = { λ p. record { direction = p.direction; left = prefix_of p.direction p.value (lists_left p.direction p.value p.places.items) } };
 
     ghost invariant = { λ p. AllByRecursion (IsPlace p.direction p.value) p.places.items × IsTurn p.direction p.turn p.places.items };
 }
@@ -56,7 +56,7 @@ impl<'r, V: RowValue, A: Allocator> Prefix<'r, V, A> {
     {
         let mut places = ArrayVec::new();
         for reference in tables.references() {
-            places.push(Place::new(reference.table().table()));
+            places.push(Place::new(direction, reference.table().table()));
         }
         let turn = Turn::of(direction, places.as_slice());
         Prefix {

@@ -1,44 +1,68 @@
 //! Runs of rows that one table alone has next.
-ghost use Rattle.std.specs.Prelude.{◌≡◌, ◌<◌, ◌≤◌, [], ◌∷◌, length, IsTrue, MatchOption};
+ghost use Rattle.std.specs.Prelude.{◌≡◌, ◌<◌, ◌≤◌, true, [], ◌∷◌, length, IsTrue, MatchOption};
 ghost use Rattle.tf_table.specs.Content.{values_of};
 ghost use Rattle.tf_table.specs.Merge.{seen};
 ghost use Rattle.tf_table.specs.Span.{timestamps};
-ghost use Rattle.tf_scan.specs.declared.place.Place.TheVariants.{Open};
-ghost use Rattle.tf_scan.specs.Place.{IsTaken};
-ghost use Rattle.tf_scan.specs.Run.{without, AreRising, EndsArePast, AreWritten, WritesRun, WritesRows, WritesKeys};
+ghost use Rattle.tf_scan.specs.Place.{is_past, IsTaken};
+ghost use Rattle.tf_scan.specs.Run.{AreRising, EndsArePast, AreWritten, WritesRows, WritesKeys};
 
 use crate::Direction;
-use crate::place::{Front, Place, first};
+use crate::rows::{first, first_timestamp, pass, split_first};
 use crate::turn::Turn;
 use std::alloc::Allocator;
 use tf_table::{Column, Cursor, Key, Row};
 
-/// Takes out rows as long as the turn lasts and there is room in `out`, and writes the timestamps of those with a value
-/// there from one place on. It tells what is left, and the place behind the last timestamp.
-pub(crate) fn take_rows<'r, V, A: Allocator>(
+/// Takes out rows as long as the turn lasts and there is room in `out`, writes the timestamps of those with a value there
+/// from one place on, and tells the place behind the last.
+pub(crate) fn take_rows<V, A: Allocator>(
     direction: Direction,
     turn: Turn,
-    front: Front<'r, V, A>,
+    rows: &mut Cursor<'_, V, A>,
     out: &mut [u64],
     from: usize,
-) -> (Place<'r, V, A>, usize)
+) -> usize
     requires { from ≤ length out.old }
-    ensures { WritesRun direction turn.until from result.1 (Open front.entry) result.0 out.old out.new }
+    ensures { WritesRows direction turn.until from result rows.old rows.new out.old out.new }
 {
-    let mut front = front;
+    let to = take_values(direction, turn, rows, out, from);
+    take_each(direction, turn, rows, out, to)
+}
+
+/// The same, row by row.
+fn take_each<V, A: Allocator>(
+    direction: Direction,
+    turn: Turn,
+    rows: &mut Cursor<'_, V, A>,
+    out: &mut [u64],
+    from: usize,
+) -> usize
+    requires { from ≤ length out.old }
+    ensures { WritesRows direction turn.until from result rows.old rows.new out.old out.new }
+{
     let mut to = from;
     while to < out.len() {
-        if !turn.has(direction, front.row.0.timestamp) {
-            return (Place::Open(front), to);
-        }
-        to = write_row(front.row, out, to);
-        to = take_values(direction, turn, &mut front.others, out, to);
-        match first(direction, &mut front.others) {
-            Some(row) => front.row = row,
-            None => return (Place::End, to),
-        }
+        let Some(row) = next_in_turn(direction, turn, rows) else {
+            return to;
+        };
+        to = write_row(row, out, to);
     }
-    (Place::Open(front), to)
+    to
+}
+
+/// Takes out the row that comes first, if the turn lasts for it.
+#[inline]
+fn next_in_turn<'r, V, A: Allocator>(
+    direction: Direction,
+    turn: Turn,
+    rows: &mut Cursor<'r, V, A>,
+) -> Option<Row<'r, V>>
+    ensures { MatchOption result (rows.new ≡ rows.old) (λ row. IsTaken direction (seen row) rows.old rows.new × (is_past direction row.0.now.timestamp turn.until ≡ true)) }
+{
+    let timestamp = first_timestamp(direction, rows)?;
+    if !turn.has(direction, timestamp) {
+        return None;
+    }
+    first(direction, rows)
 }
 
 /// Writes the timestamp of a row with a value at a place in `out`, and tells the place behind it. Of a tombstone it writes
@@ -55,7 +79,7 @@ fn write_row<V>(row: Row<'_, V>, out: &mut [u64], to: usize) -> usize
     to + 1
 }
 
-/// The same as `take_rows` of the rows of a cursor, where they have one value, which is stored once. Else it takes none.
+/// The same as `take_rows`, where the rows have one value, which is stored once. Else it takes none.
 ///
 /// It goes over the keys alone.
 fn take_values<V, A: Allocator>(
@@ -150,27 +174,4 @@ fn write_timestamps(
         left = others;
     }
     to
-}
-
-/// The key that comes first, and the others.
-#[inline]
-fn split_first(direction: Direction, keys: &[Key]) -> Option<(&Key, &[Key])>
-    ensures { MatchOption result (keys.now ≡ []) (λ split. IsTaken direction split.0.now keys.now split.1.now) }
-{
-    match direction {
-        Direction::Rising => keys.split_first(),
-        Direction::Falling => keys.split_last(),
-    }
-}
-
-/// Passes over so many rows from the side that comes first.
-#[inline]
-fn pass<V, A: Allocator>(direction: Direction, rows: &mut Cursor<'_, V, A>, count: usize)
-    requires { count ≤ length rows.old }
-    ensures { rows.new ≡ without direction count rows.old }
-{
-    match direction {
-        Direction::Rising => rows.pass(count),
-        Direction::Falling => rows.pass_back(count),
-    }
 }

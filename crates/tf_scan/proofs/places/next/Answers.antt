@@ -10,9 +10,9 @@ pub returns-then-is_some-clause-right : goal.returns-then-is_some-clause-right
 returns-then-is_some-clause-right g c = takes-right c.args.direction c.args.value c.in-Some.timestamp c.loop-timestamp.places c.take-entry.new.places c.take-entry.ensures.taken
 
 -- the timestamp stands before what is left
-front : (g : given.Over) (c : goal.Then-is_some g) → prefix_of c.args.direction c.args.value (lists_left c.args.value c.args.places.now) ≡ c.in-Some.timestamp ∷ prefix_of c.args.direction c.args.value (lists_left c.args.value c.take-entry.new.places)
+front : (g : given.Over) (c : goal.Then-is_some g) → prefix_of c.args.direction c.args.value (lists_left c.args.direction c.args.value c.args.places.now) ≡ c.in-Some.timestamp ∷ prefix_of c.args.direction c.args.value (lists_left c.args.direction c.args.value c.take-entry.new.places)
 front g c =
-    let has = has-entry c.args.value c.in-Some.timestamp c.loop-timestamp.places c.take-entry.result c.flatten.result c.is_some.result c.take-entry.ensures.entry c.flatten.ensures c.is_some.ensures ∙ c.if-is_some.true in
+    let has = has-entry c.args.direction c.args.value c.in-Some.timestamp c.loop-timestamp.places c.take-entry.result c.flatten.result c.is_some.result c.take-entry.ensures.entry c.flatten.ensures c.is_some.ensures ∙ c.if-is_some.true in
     sym c.loop-timestamp.invariant.same ∙ taken-first c.args.direction c.args.value c.in-Some.timestamp c.loop-timestamp.places c.take-entry.new.places c.take-entry.ensures.taken c.loop-timestamp.invariant.right c.in-Some.ensures has
 
 pub returns-then-is_some-clause-first : goal.returns-then-is_some-clause-first
@@ -26,7 +26,7 @@ loop-timestamp-smaller g c = takes-fewer c.args.direction c.args.value c.in-Some
 
 pub loop-timestamp-preserved : goal.loop-timestamp-preserved
 loop-timestamp-preserved g c =
-    let has = has-entry c.args.value c.in-Some.timestamp c.loop-timestamp.places c.take-entry.result c.flatten.result c.is_some.result c.take-entry.ensures.entry c.flatten.ensures c.is_some.ensures ∙ c.if-is_some.false in
+    let has = has-entry c.args.direction c.args.value c.in-Some.timestamp c.loop-timestamp.places c.take-entry.result c.flatten.result c.is_some.result c.take-entry.ensures.entry c.flatten.ensures c.is_some.ensures ∙ c.if-is_some.false in
     record {
       right = takes-right c.args.direction c.args.value c.in-Some.timestamp c.loop-timestamp.places c.take-entry.new.places c.take-entry.ensures.taken;
       turn = c.take-entry.ensures.turn;

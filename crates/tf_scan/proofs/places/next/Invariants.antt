@@ -9,8 +9,8 @@ abbrev pub invariant-loop-timestamp : goal.invariant-loop-timestamp
 invariant-loop-timestamp g l = record {
   right : AllByRecursion (IsPlace l.direction l.value) l.places;
   turn : IsTurn l.direction l.turn l.places;
-  same : prefix_of l.direction l.value (lists_left l.value l.places) ≡ prefix_of l.direction l.value (lists_left l.value l.initial.places);
+  same : prefix_of l.direction l.value (lists_left l.direction l.value l.places) ≡ prefix_of l.direction l.value (lists_left l.direction l.value l.initial.places);
 }
 
 abbrev pub decreases-loop-timestamp : goal.decreases-loop-timestamp
-decreases-loop-timestamp g l = sum_by (steps_left l.value) l.places
+decreases-loop-timestamp g l = sum_by (steps_left l.direction l.value) l.places

@@ -16,7 +16,7 @@ pub returns-then-turn-places-clause-entry : goal.returns-then-turn-places-clause
 returns-then-turn-places-clause-entry g c =
     let past = subst (λ n. is_past c.args.direction c.args.timestamp n ≡ true) c.turn_at.ensures (sym c.has.ensures ∙ c.if-has.true) in
     c.take.ensures.entry
-    ∙ ap (λ p. entry_at (key_of c.args.value c.args.timestamp) (rows_left c.args.value p)) (sym c.index-places-turn.is)
+    ∙ ap (λ p. entry_at (key_of c.args.value c.args.timestamp) (rows_left c.args.direction c.args.value p)) (sym c.index-places-turn.is)
     ∙ sym (entry-one c.args.direction c.args.value c.args.timestamp c.turn_at.result.place c.args.places.now c.index-places-turn.result c.requires.right past (omega arith) (sym c.index-places-turn.is))
 
 pub returns-then-turn-places-clause-taken : goal.returns-then-turn-places-clause-taken

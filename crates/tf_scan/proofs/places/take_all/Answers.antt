@@ -23,5 +23,5 @@ loop-place-preserved g c =
       walked = walked-more (Takes d v t) i c.args.places.now c.loop-place.places p c.take-entry.new.self walked (omega arith) c.place-item.is
           (subst (λ q. Takes d v t q c.take-entry.new.self) (sym c.place-item.is) c.take-entry.ensures.taken);
       newest = entry-more d v t c.args.places.now c.loop-place.places i p walked (omega arith) c.place-item.is c.loop-place.newest c.take-entry.result c.if-is_none.newest c.is_none.result
-          c.is_none.ensures newest c.loop-place.invariant.newest (c.take-entry.ensures.entry ∙ ap (λ q. entry_at (key_of v t) (rows_left v q)) (sym c.place-item.is));
+          c.is_none.ensures newest c.loop-place.invariant.newest (c.take-entry.ensures.entry ∙ ap (λ q. entry_at (key_of v t) (rows_left d v q)) (sym c.place-item.is));
     }

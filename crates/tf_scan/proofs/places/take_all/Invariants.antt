@@ -9,5 +9,5 @@ use Rattle.tf_scan.proofs.places.take_all.Given as goal
 abbrev pub invariant-loop-place : goal.invariant-loop-place
 invariant-loop-place g l = record {
   walked : IsWalked (Takes l.direction l.value l.timestamp) l.place-index l.initial.places l.places;
-  newest : option_map option_copied l.newest ≡ entry_of (key_of l.value l.timestamp) (lists_left l.value (take l.place-index l.initial.places));
+  newest : option_map option_copied l.newest ≡ entry_of (key_of l.value l.timestamp) (lists_left l.direction l.value (take l.place-index l.initial.places));
 }

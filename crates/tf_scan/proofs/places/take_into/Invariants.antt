@@ -10,7 +10,7 @@ abbrev pub invariant-loop-taken : goal.invariant-loop-taken
 invariant-loop-taken g l = record {
   right : AllByRecursion (IsPlace l.direction l.value) l.places;
   turn : IsTurn l.direction l.turn l.places;
-  moved : HasMoved (prefix_of l.direction l.value (lists_left l.value l.initial.places)) (prefix_of l.direction l.value (lists_left l.value l.places)) l.taken l.initial.out l.out;
+  moved : HasMoved (prefix_of l.direction l.value (lists_left l.direction l.value l.initial.places)) (prefix_of l.direction l.value (lists_left l.direction l.value l.places)) l.taken l.initial.out l.out;
 }
 
 abbrev pub decreases-loop-taken : goal.decreases-loop-taken

@@ -24,14 +24,14 @@ loop-reference-preserved g c =
     let i = c.loop-reference.reference-index in
     let ref = c.reference-item.result in
     record {
-      right = subst (AllByRecursion (IsPlace c.args.direction v)) (sym c.push.ensures.items) (each-push (IsPlace c.args.direction v) items place c.loop-reference.invariant.right (c.new.ensures.right c.args.direction v));
+      right = subst (AllByRecursion (IsPlace c.args.direction v)) (sym c.push.ensures.items) (each-push (IsPlace c.args.direction v) items place c.loop-reference.invariant.right (c.new.ensures.right v));
       count = omega (arith, c.push.ensures.len, c.loop-reference.invariant.count);
       same = λ t.
           let key = key_of v t in
           let table = c.table-in-loop-reference.ensures ∙ ap (λ (b : Table g.row.V.Denot). b.rows) c.table.ensures in
-          ap (λ ps. entry_of key (lists_left v ps)) c.push.ensures.items
-          ∙ entry_of-push v t items place
-          ∙ ap (λ x. first_some x (entry_at key (rows_left v place))) (c.loop-reference.invariant.same t)
+          ap (λ ps. entry_of key (lists_left c.args.direction v ps)) c.push.ensures.items
+          ∙ entry_of-push c.args.direction v t items place
+          ∙ ap (λ x. first_some x (entry_at key (rows_left c.args.direction v place))) (c.loop-reference.invariant.same t)
           ∙ ap (first_some (entry_of key (lists_of (map shown_of (take i refs))))) (c.new.ensures.rows v t ∙ ap (λ (rows : List (Key × Option g.row.V.Denot)). entry_at key rows) table)
           ∙ sym (shown-push shown_of key (take i refs) ref)
           ∙ ap (λ q. entry_of key (lists_of (map shown_of (take i refs ++ q ∷ [])))) c.reference-item.is
@@ -39,7 +39,7 @@ loop-reference-preserved g c =
     }
 
 -- the places say of each key what the tables say
-all : (g : given.Over) (c : goal.After-of-turn g) → (t : ℕ) → entry_of (key_of c.args.value t) (lists_left c.args.value c.loop-reference.places.items) ≡ entry_of (key_of c.args.value t) (lists_of c.args.tables.now)
+all : (g : given.Over) (c : goal.After-of-turn g) → (t : ℕ) → entry_of (key_of c.args.value t) (lists_left c.args.direction c.args.value c.loop-reference.places.items) ≡ entry_of (key_of c.args.value t) (lists_of c.args.tables.now)
 all g c t =
     let key = key_of c.args.value t in
     let refs = c.references-reference-items.result.now in
@@ -48,7 +48,7 @@ all g c t =
     ∙ ap (λ (ts : List (Shown g.row.V.Denot)). entry_of key (lists_of ts)) c.references-reference-items.ensures.value
 
 pub returns-clause-in_order : goal.returns-clause-in_order
-returns-clause-in_order g c = in_order-prefix c.args.direction c.args.value (lists_left c.args.value c.loop-reference.places.items)
+returns-clause-in_order g c = in_order-prefix c.args.direction c.args.value (lists_left c.args.direction c.args.value c.loop-reference.places.items)
 
 pub returns-clause-members : goal.returns-clause-members
-returns-clause-members g c = λ t. among-prefix c.args.direction c.args.value t (lists_left c.args.value c.loop-reference.places.items) ∙ ap (λ x. is_some (option_flatten x)) (all g c t)
+returns-clause-members g c = λ t. among-prefix c.args.direction c.args.value t (lists_left c.args.direction c.args.value c.loop-reference.places.items) ∙ ap (λ x. is_some (option_flatten x)) (all g c t)

@@ -11,5 +11,5 @@ abbrev pub invariant-loop-reference : goal.invariant-loop-reference
 invariant-loop-reference g l = record {
   right : AllByRecursion (IsPlace l.direction l.value) l.places.items;
   count : length l.places.items ≡ l.reference-index;
-  same : (t : ℕ) → entry_of (key_of l.value t) (lists_left l.value l.places.items) ≡ entry_of (key_of l.value t) (lists_of (map shown_of (take l.reference-index l.reference-items)));
+  same : (t : ℕ) → entry_of (key_of l.value t) (lists_left l.direction l.value l.places.items) ≡ entry_of (key_of l.value t) (lists_of (map shown_of (take l.reference-index l.reference-items)));
 }

@@ -21,6 +21,6 @@ returns-clause-others g c =
     let v = c.self.inside.value in
     let items = c.self.inside.places.items in
     let done = subst (λ ps. AllZip (Seeks d v c.args.timestamp) ps c.seek.new.places) c.as_mut_slice.ensures.value c.seek.ensures.sought in
-    ap (λ ps. prefix_of d v (lists_left v ps)) (refilled items c.seek.new.places (seeks-long d v c.args.timestamp items c.seek.new.places done))
+    ap (λ ps. prefix_of d v (lists_left d v ps)) (refilled items c.seek.new.places (seeks-long d v c.args.timestamp items c.seek.new.places done))
     ∙ sought d v c.args.timestamp items c.seek.new.places done
     ∙ ap (λ (s : Sequence). those_from s.direction c.args.timestamp s.left) c.self.view_is
