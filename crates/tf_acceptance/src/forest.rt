@@ -56,7 +56,7 @@ fn assert_rows_alike<'r, T: MutableRows + Drop, A: Allocator + Copy, N: Naming>(
     rows: Rows<'r, T, A, N>,
     commands: &[Command<Global>],
 )
-    requires { AreEmpty (parts_of (T.entries rows.fresh) rows.manifest) }
+    requires { AreEmpty (parts_of (T.entries rows.fresh) rows.published.tables) }
 {
     assert_forest_alike(rt, rows, commands);
 }
@@ -143,7 +143,7 @@ fn assert_rows_refused<'r, T: MutableRows + Drop, A: Allocator + Copy, N: Naming
     rows: Rows<'r, T, A, N>,
     commands: &[Command<Global>],
 ) -> Result<usize, Fail>
-    requires { AreEmpty (parts_of (T.entries rows.fresh) rows.manifest) }
+    requires { AreEmpty (parts_of (T.entries rows.fresh) rows.published.tables) }
 {
     assert_forest_refused(rt, heap, rows, commands)
 }

@@ -11,6 +11,7 @@ pub mod Entries
 pub mod Early
 pub mod GoingBack
 pub mod FoundInRows
+pub mod PartiesAfter
 pub mod Parts
 pub mod Steps
 pub mod Next
@@ -25,6 +26,9 @@ pub mod BelowFloors
 pub mod Added
 pub mod Sealed
 pub mod SealedRows
+pub mod Measures
+pub mod Bounds
 pub mod OneRow
 pub mod PublishRows
 pub mod Refused
+pub mod HeldAccounts

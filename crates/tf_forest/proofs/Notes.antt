@@ -1,13 +1,14 @@
 -- Notes that take entries back: one more, one less, and what they leave of the journal.
 use Rattle.std.proofs.Common.{◌≡◌, ◌≢◌, ◌+◌, ◌-◌, ◌≤◌, ℕ, suc, List, [], ◌∷◌, ◌++◌, length, take, Bool, Some, None, refl, sym, ◌∙◌, ap, subst, arith, append-nil}
 use Rattle.std.proofs.lemmas.List.{append_assoc, length-append, take_at}
+use Rattle.std.proofs.lemmas.Option.{none-some}
 use Rattle.std.proofs.lemmas.List.Elements.{All-head, All-tail}
 use Rattle.tf_journal.specs.declared.entry.Entry.{Entry}
 use Rattle.tf_journal.specs.Lawful.{IsSound}
 use Rattle.tf_journal.specs.Ledger.{CanGrow}
 use Rattle.tf_journal.specs.Journal.{IsJournal, IsRisingFrom, IsUpTo, last_timestamp, timestamp_of}
-use Rattle.tf_forest.specs.declared.change.Step.{Step}
 use Rattle.tf_forest.specs.declared.floors.Floors.{Floors}
+use Rattle.tf_forest.specs.declared.found.Party.{Party}
 use Rattle.tf_table.specs.declared.key.Key.{Key}
 use Rattle.tf_table.specs.Content.{entry_at}
 use Rattle.tf_manifest.specs.declared.row.Row.{Row}
@@ -16,29 +17,31 @@ use Rattle.tf_manifest.specs.declared.value.Value.{Value}
 use Rattle.tf_manifest.specs.Shows.{Shows, value_of}
 use Rattle.tf_journal.proofs.Sound.{sound_nothing, sound_push}
 use Rattle.tf_forest.specs.Changes.{CanStepAll, all_stepped}
+use Rattle.tf_forest.specs.Edits.{party_of}
 use Rattle.tf_forest.specs.Floors.{HaveFloors}
-use Rattle.tf_forest.specs.Forest.{AreRight, IsCut, IsForest, ShowTheirJournal, TakesBack, all_undone, journal_in}
+use Rattle.tf_forest.specs.Forest.{AreRight, IsCut, IsForest, Noted, ShowTheirJournal, TakesBack, all_undone, journal_in}
 use Rattle.tf_forest.specs.Nest.{AreEmpty, LogsHaveValues}
 use Rattle.tf_forest.specs.Next.{content_in}
 use Rattle.tf_forest.specs.Parts.{Part, Parts, value_of_part}
+use Rattle.tf_forest.specs.Resident.{Accounts, AreAmong, accounts_before}
 
-all_undone-last : (notes : List (List Step)) (note : List Step) (rows : Parts) → all_undone (notes ++ note ∷ []) rows ≡ all_undone notes (all_stepped note rows)
+all_undone-last : (notes : List Noted) (note : Noted) (rows : Parts) → all_undone (notes ++ note ∷ []) rows ≡ all_undone notes (all_stepped note.steps rows)
 all_undone-last [] note rows = refl
-all_undone-last (first ∷ notes) note rows = ap (all_stepped first) (all_undone-last notes note rows)
+all_undone-last (first ∷ notes) note rows = ap (all_stepped first.steps) (all_undone-last notes note rows)
 
 module _ (has : Row → Bool) (fits : Row → Value → Bool) (takes_any : Row → Type 0) where
-  abbrev Takes : List Step → Parts → Type 0
+  abbrev Takes : Noted → Parts → Type 0
   Takes note rows = TakesBack has fits takes_any note rows
 
-  abbrev Right : List (List Step) → Parts → Type 0
+  abbrev Right : List Noted → Parts → Type 0
   Right notes rows = AreRight has fits takes_any notes rows
 
-  pub right-last : (notes : List (List Step)) (note : List Step) (rows : Parts) → Takes note rows → Right notes (all_stepped note rows) → Right (notes ++ note ∷ []) rows
+  pub right-last : (notes : List Noted) (note : Noted) (rows : Parts) → Takes note rows → Right notes (all_stepped note.steps rows) → Right (notes ++ note ∷ []) rows
   right-last [] note rows takes right = (tt, takes)
   right-last (first ∷ notes) note rows takes right =
       (right-last notes note rows takes right.0, subst (Takes first) (sym (all_undone-last notes note rows)) right.1)
 
-  pub right-first : (notes : List (List Step)) (note : List Step) (rows : Parts) → Right (notes ++ note ∷ []) rows → Takes note rows × Right notes (all_stepped note rows)
+  pub right-first : (notes : List Noted) (note : Noted) (rows : Parts) → Right (notes ++ note ∷ []) rows → Takes note rows × Right notes (all_stepped note.steps rows)
   right-first [] note rows right = (right.1, tt)
   right-first (first ∷ notes) note rows right =
       let rest = right-first notes note rows right.0 in
@@ -56,8 +59,8 @@ pub journal_length : (journal : List Entry) → IsJournal journal → length jou
 journal_length journal is = let long = rising_length 0 last_timestamp journal (omega arith) is.rising is.in_range in omega arith
 
 -- what is kept and the notes together are the journal's length
-pub noted_length : (has : Row → Bool) (fits : Row → Value → Bool) (takes_any : Row → Type 0) (rows : Parts) (notes : List (List Step)) (kept n : ℕ) (lows : Floors) → IsForest has fits takes_any rows notes kept lows → n ≡ length notes → kept + n ≤ last_timestamp
-noted_length has fits takes_any rows notes kept n lows is own =
+pub noted_length : (has : Row → Bool) (fits : Row → Value → Bool) (takes_any : Row → Type 0) (rows : Parts) (notes : List Noted) (kept n : ℕ) (lows : Floors) (held : List (ℕ × Party)) → IsForest has fits takes_any rows notes kept lows held → n ≡ length notes → kept + n ≤ last_timestamp
+noted_length has fits takes_any rows notes kept n lows held is own =
     let long = journal_length (journal_in rows) is.shows.sound.is_journal in
     let count = is.count in
     omega arith
@@ -68,13 +71,14 @@ Spell = (rows : Parts) (journal : List Entry) → IsSound journal → Shows (con
 
 -- rows after an entry was added to them, with the note that takes it back
 module _ (has : Row → Bool) (fits : Row → Value → Bool) (takes_any : Row → Type 0) where
-  pub record IsGrown (old new : Parts) (e : Entry) (note : List Step) : Type 0 where
+  pub record IsGrown (old new : Parts) (e : Entry) (note : Noted) : Type 0 where
     pub shows : Shows (content_in new) (journal_in old ++ e ∷ [])
     pub values : LogsHaveValues new
-    pub can : CanStepAll has fits takes_any note new
-    pub back : all_stepped note new ≡ old
+    pub can : CanStepAll has fits takes_any note.steps new
+    pub back : all_stepped note.steps new ≡ old
+    pub accounts : (id : ℕ) → accounts_before note.formers (party_of (journal_in old ++ e ∷ [])) id ≡ party_of (journal_in old) id
 
-  module _ (spell : Spell) (old new : Parts) (notes : List (List Step)) (note : List Step) (kept : ℕ) (lows : Floors) (e : Entry) (was : IsForest has fits takes_any old notes kept lows) (grows : CanGrow (journal_in old) e) (is : IsGrown old new e note) where
+  module _ (spell : Spell) (old new : Parts) (notes : List Noted) (note : Noted) (kept : ℕ) (lows : Floors) (held : List (ℕ × Party)) (e : Entry) (was : IsForest has fits takes_any old notes kept lows held) (grows : CanGrow (journal_in old) e) (is : IsGrown old new e note) where
     now_sound : IsSound (journal_in old ++ e ∷ [])
     now_sound = sound_push (journal_in old) e was.shows.sound grows
 
@@ -87,10 +91,13 @@ module _ (has : Row → Bool) (fits : Row → Value → Bool) (takes_any : Row �
       shows = subst ShowTheirJournal (sym is.back) was.shows;
       last = e;
       added = grown_journal ∙ ap (λ (rows : Parts). journal_in rows ++ e ∷ []) (sym is.back);
+      accounts = λ id.
+          ap (λ (j : List Entry). accounts_before note.formers (party_of j) id) grown_journal ∙ is.accounts id
+          ∙ ap (λ (rows : Parts). party_of (journal_in rows) id) (sym is.back);
     }
 
-    pub grown_forest : (after : Floors) → HaveFloors after (journal_in old ++ e ∷ []) kept → IsForest has fits takes_any new (notes ++ note ∷ []) kept after
-    grown_forest after have = record {
+    pub grown_forest : (after : Floors) (now : List (ℕ × Party)) → HaveFloors after (journal_in old ++ e ∷ []) kept → AreAmong (party_of (journal_in old ++ e ∷ [])) now → IsForest has fits takes_any new (notes ++ note ∷ []) kept after now
+    grown_forest after now have right = record {
       shows = record {
         sound = subst IsSound (sym grown_journal) now_sound;
         shows = subst (Shows (content_in new)) (sym grown_journal) is.shows;
@@ -103,6 +110,7 @@ module _ (has : Row → Bool) (fits : Row → Value → Bool) (takes_any : Row �
           let more = length-append notes (note ∷ []) in
           omega arith;
       floors = subst (λ (j : List Entry). HaveFloors after j kept) (sym grown_journal) have;
+      resident = subst (λ (j : List Entry). AreAmong (party_of j) now) (sym grown_journal) right;
     }
 
 -- a journal with nothing cut, and cut once more
@@ -125,30 +133,36 @@ cut_length old new count cut =
 
 -- one note less
 module _ (has : Row → Bool) (fits : Row → Value → Bool) (takes_any : Row → Type 0) (whole : List Entry) (count : ℕ) where
-  pub record IsUndone (rows : Parts) (notes : List (List Step)) : Type 0 where
+  pub record IsUndone (rows : Parts) (notes : List Noted) (held : List (ℕ × Party)) : Type 0 where
     pub shows : ShowTheirJournal rows
     pub right : AreRight has fits takes_any notes rows
     pub fewer : length notes ≤ count
     pub cut : IsCut whole (journal_in rows) (count - length notes)
+    pub resident : AreAmong (party_of (journal_in rows)) held
 
-  pub one_less : (rows after : Parts) (notes rest : List (List Step)) (note : List Step) → IsUndone rows notes → notes ≡ rest ++ note ∷ [] → after ≡ all_stepped note rows → IsUndone after rest
-  one_less rows after notes rest note is split back =
-      let both = right-first has fits takes_any rest note rows (subst (λ (ns : List (List Step)). AreRight has fits takes_any ns rows) split is.right) in
-      let many = ap (λ (ns : List (List Step)). length ns) split ∙ length-append rest (note ∷ []) in
+  -- what is held after a note's accounts are as they were
+  abbrev GivesBack : Noted → List (ℕ × Party) → List (ℕ × Party) → Type 0
+  GivesBack note held now = (accounts : Accounts) → AreAmong accounts held → AreAmong (accounts_before note.formers accounts) now
+
+  pub one_less : (rows after : Parts) (notes rest : List Noted) (note : Noted) (held now : List (ℕ × Party)) → IsUndone rows notes held → notes ≡ rest ++ note ∷ [] → after ≡ all_stepped note.steps rows → GivesBack note held now → IsUndone after rest now
+  one_less rows after notes rest note held now is split back gives =
+      let both = right-first has fits takes_any rest note rows (subst (λ (ns : List Noted). AreRight has fits takes_any ns rows) split is.right) in
+      let many = ap (λ (ns : List Noted). length ns) split ∙ length-append rest (note ∷ []) in
       let bound = is.fewer in
-      subst (λ (ps : Parts). IsUndone ps rest) (sym {A = Parts} back) (record {
+      subst (λ (ps : Parts). IsUndone ps rest now) (sym {A = Parts} back) (record {
         shows = both.0.shows;
         right = both.1;
         fewer = omega arith;
         cut =
             let less : suc (count - length notes) ≡ count - length rest = omega arith in
-            subst (IsCut whole (journal_in (all_stepped note rows))) less
-            (once_cut whole (journal_in rows) (journal_in (all_stepped note rows)) both.0.last (count - length notes) is.cut both.0.added);
+            subst (IsCut whole (journal_in (all_stepped note.steps rows))) less
+            (once_cut whole (journal_in rows) (journal_in (all_stepped note.steps rows)) both.0.last (count - length notes) is.cut both.0.added);
+        resident = λ id party there. sym (both.0.accounts id) ∙ gives (party_of (journal_in rows)) is.resident id party there;
       })
 
-  pub can_undo : (rows : Parts) (notes rest : List (List Step)) (note : List Step) → IsUndone rows notes → notes ≡ rest ++ note ∷ [] → CanStepAll has fits takes_any note rows
-  can_undo rows notes rest note is split =
-      (right-first has fits takes_any rest note rows (subst (λ (ns : List (List Step)). AreRight has fits takes_any ns rows) split is.right)).0.can
+  pub can_undo : (rows : Parts) (notes rest : List Noted) (note : Noted) (held : List (ℕ × Party)) → IsUndone rows notes held → notes ≡ rest ++ note ∷ [] → CanStepAll has fits takes_any note.steps rows
+  can_undo rows notes rest note held is split =
+      (right-first has fits takes_any rest note rows (subst (λ (ns : List Noted). AreRight has fits takes_any ns rows) split is.right)).0.can
 
 pub cut_is_taken : (old new : List Entry) (count n : ℕ) → IsCut old new count → length old ≡ n + count → take n old ≡ new
 cut_is_taken old new count n cut long =
@@ -192,7 +206,7 @@ no_tombstone rows empty r log key =
 pub empty_journal : Spell → (rows : Parts) → AreEmpty rows → journal_in rows ≡ []
 empty_journal spell rows empty = spell rows [] sound_nothing (nothing_shown rows empty)
 
-pub empty_forest : (has : Row → Bool) (fits : Row → Value → Bool) (takes_any : Row → Type 0) → Spell → (rows : Parts) → AreEmpty rows → (lows : Floors) → HaveFloors lows [] 0 → IsForest has fits takes_any rows [] 0 lows
+pub empty_forest : (has : Row → Bool) (fits : Row → Value → Bool) (takes_any : Row → Type 0) → Spell → (rows : Parts) → AreEmpty rows → (lows : Floors) → HaveFloors lows [] 0 → IsForest has fits takes_any rows [] 0 lows []
 empty_forest has fits takes_any spell rows empty lows have = record {
   shows = record {
     sound = subst IsSound (sym (empty_journal spell rows empty)) sound_nothing;
@@ -202,6 +216,7 @@ empty_forest has fits takes_any spell rows empty lows have = record {
   right = tt;
   count = ap (λ (j : List Entry). length j) (empty_journal spell rows empty);
   floors = subst (λ (j : List Entry). HaveFloors lows j 0) (sym (empty_journal spell rows empty)) have;
+  resident = λ id party there. absurd (none-some party there);
 }
 
 -- rows with the same value at each key show the same journal
@@ -211,14 +226,14 @@ same_shown old new same shows r key = same r key ∙ shows r key
 pub same_journal : Spell → (old new : Parts) → ((r : Row) (key : Key) → value_of_part (new r) key ≡ value_of_part (old r) key) → ShowTheirJournal old → journal_in new ≡ journal_in old
 same_journal spell old new same was = spell new (journal_in old) was.sound (same_shown old new same was.shows)
 
-no_notes : (notes : List (List Step)) → length notes ≡ 0 → notes ≡ []
+no_notes : (notes : List Noted) → length notes ≡ 0 → notes ≡ []
 no_notes [] none = refl
 no_notes (note ∷ notes) none = absurd (omega arith)
 
 -- a forest that keeps all its entries, over such rows
-pub same_forest : (has : Row → Bool) (fits : Row → Value → Bool) (takes_any : Row → Type 0) → Spell → (old new : Parts) (notes : List (List Step)) (kept : ℕ) (lows : Floors) → ((r : Row) (key : Key) → value_of_part (new r) key ≡ value_of_part (old r) key) → LogsHaveValues new
-    → IsForest has fits takes_any old notes kept lows → kept ≡ length (journal_in old) → IsForest has fits takes_any new notes kept lows
-same_forest has fits takes_any spell old new notes kept lows same values was all =
+pub same_forest : (has : Row → Bool) (fits : Row → Value → Bool) (takes_any : Row → Type 0) → Spell → (old new : Parts) (notes : List Noted) (kept : ℕ) (lows : Floors) (held : List (ℕ × Party)) → ((r : Row) (key : Key) → value_of_part (new r) key ≡ value_of_part (old r) key) → LogsHaveValues new
+    → IsForest has fits takes_any old notes kept lows held → kept ≡ length (journal_in old) → IsForest has fits takes_any new notes kept lows held
+same_forest has fits takes_any spell old new notes kept lows held same values was all =
     let journal = same_journal spell old new same was.shows in
     let count = was.count in
     record {
@@ -227,7 +242,8 @@ same_forest has fits takes_any spell old new notes kept lows same values was all
         shows = subst (Shows (content_in new)) (sym journal) (same_shown old new same was.shows.shows);
         values = values;
       };
-      right = subst (λ (ns : List (List Step)). AreRight has fits takes_any ns new) (sym (no_notes notes (omega arith))) tt;
+      right = subst (λ (ns : List Noted). AreRight has fits takes_any ns new) (sym (no_notes notes (omega arith))) tt;
       count = ap (λ (j : List Entry). length j) journal ∙ was.count;
       floors = subst (λ (j : List Entry). HaveFloors lows j kept) (sym journal) was.floors;
+      resident = subst (λ (j : List Entry). AreAmong (party_of j) held) (sym journal) was.resident;
     }

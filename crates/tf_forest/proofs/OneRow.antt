@@ -1,7 +1,7 @@
 -- What of a manifest changes where one row does.
-use Rattle.std.proofs.Common.{◌≡◌, ◌≢◌, ℕ, zero, suc, ◌+◌, ◌<◌, ◌≤◌, List, [], ◌∷◌, length, map, Option, Bool, true, false, cond, refl, sym, ◌∙◌, ap, subst, slice_set, arith}
+use Rattle.std.proofs.Common.{◌≡◌, ◌≢◌, ℕ, ◌+◌, ◌<◌, ◌≤◌, List, [], ◌∷◌, length, map, Option, Bool, true, false, cond, refl, sym, ◌∙◌, ap, subst, slice_set, arith}
 use Rattle.std.specs.Option.{option_flatten, option_map}
-use Rattle.std.specs.Prelude.{slice_index_or, ◌==◌}
+use Rattle.std.specs.Prelude.{◌==◌}
 use Rattle.std.proofs.lemmas.Bool.{eq-eqb, false≢true}
 use Rattle.tf_table.specs.declared.key.Key.{Key}
 use Rattle.tf_table.specs.Content.{entry_at, entry_of}
@@ -25,6 +25,7 @@ use Rattle.tf_forest.specs.SealedRow.{IsSealedOf, PushesIn, entries_of_sealed, k
 use Rattle.tf_forest.specs.declared.sealed_row.SealedRow.{SealedRow}
 use Rattle.tf_forest.proofs.Fresh.{apart_by, set_elsewhere, set_here, stamp_apart, unit_apart}
 use Rattle.tf_forest.proofs.Parts.{value-seen}
+use Rattle.tf_forest.proofs.Measures.{installed_references, placed, pushed_references, pushed_with}
 use Rattle.tf_forest.proofs.Sealed.{found_sealed, same_in_front}
 
 -- the tables of another row are as they were
@@ -58,23 +59,6 @@ own_change view p (kind.Unit u) tables h = set_here view.units (unit_index u) ta
 own_change view p kind.State tables h = set_here view.states 0 tables h
 own_change view p kind.Sums tables h = set_here view.sums 0 tables h
 own_change view p kind.Status tables h = set_here view.statuses 0 tables h
-
--- what is counted
-pub pushed_with : (view : View) (k : Kind) (rows : List (List (Shown (StoredBy k)))) → (with_rows view k rows).pushed ≡ view.pushed
-pushed_with view (kind.Stamp u) rows = refl
-pushed_with view kind.Account rows = refl
-pushed_with view kind.Transfer rows = refl
-pushed_with view kind.Id rows = refl
-pushed_with view (kind.Unit u) rows = refl
-pushed_with view kind.State rows = refl
-pushed_with view kind.Sums rows = refl
-pushed_with view kind.Status rows = refl
-
--- a row that isn't empty has its place
-pub placed : {X : Type 0} (rows : List (List X)) (at : ℕ) → 0 < length (slice_index_or rows at []) → at < length rows
-placed [] at h = absurd (omega (arith, h))
-placed (row ∷ rows) zero h = omega arith
-placed (row ∷ rows) (suc at) h = omega (arith, placed rows at h)
 
 module _ {A N : Type 0} where
   job_kind : (m : Merged A N) → kind_of_job (job_of m) ≡ kind_of_merged m
@@ -132,6 +116,14 @@ module _ {A N : Type 0} where
           references = λ other apart.
               ap (λ (v : View). references_in v other) is
               ∙ ap (λ (ts : List (Shown (StoredBy (kind_of other)))). length ts) (others_stay old (one_more old.pushed) k (kind_of other) installs.installs.tables (λ e. apart_by r other apart (e ∙ of)));
+          few =
+              let one = ap (λ (p : Pushed). p.count) now in
+              let less = installed_references old new m installs in
+              omega (arith, one, less);
+          added =
+              let one = ap (λ (p : Pushed). p.count) now in
+              let less = installed_references old new m installs in
+              omega (arith, one, less);
           count = ap (λ (p : Pushed). p.count) now ∙ ap (λ (b : Bool). old.pushed.count + cond b 1 0) (sym (eq-eqb (references_in old r) 64 full));
           limit = ap (λ (p : Pushed). p.limit) now;
         }
@@ -142,6 +134,8 @@ has_room_left r view few = record {
   content = λ other key. refl;
   references = λ other apart. refl;
   count = omega (arith, ap (λ (b : Bool). view.pushed.count + cond b 1 0) few);
+  few = omega arith;
+  added = omega arith;
   limit = refl;
 }
 
@@ -158,6 +152,8 @@ idle fresh r view none =
       here = λ key. found_sealed fresh view r key (sym (ap (entry_at key) empty));
       others = record { content = λ other key apart. refl; references = λ other apart. refl };
       count = omega (arith, nothing);
+      few = omega arith;
+      added = omega arith;
       limit = refl;
     }
 
@@ -208,6 +204,14 @@ module _ {A : Type 0} (fresh : Entries) (r : Row) (old mid new : View) (s : Seal
           references = λ other apart. ap (λ (ts : List (Shown (StoredBy (kind_of other)))). length ts) (other_tables other apart) ∙ room.references other apart;
         };
         count = omega (arith, counted, before, all);
+        few =
+            let references = pushed_references mid new s pushes in
+            let fewer = room.few in
+            omega (arith, counted, references, fewer);
+        added =
+            let references = pushed_references mid new s pushes in
+            let fewer = room.added in
+            omega (arith, counted, references, fewer);
         limit = ap (λ (p : Pushed). p.limit) now ∙ room.limit;
       }
 

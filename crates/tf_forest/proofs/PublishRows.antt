@@ -1,32 +1,27 @@
 -- All rows published, one after another.
-use Rattle.std.proofs.Common.{◌≡◌, ℕ, zero, suc, ◌+◌, ◌<◌, ◌≤◌, List, [], ◌∷◌, length, drop, map, Option, Some, None, Result, Ok, Err, OnOk, OnErr, ◌≢◌, false, refl, sym, ◌∙◌, ap, subst, arith, ◌⊎◌, inl, inr}
+use Rattle.std.proofs.Common.{◌≡◌, ℕ, zero, suc, ◌+◌, ◌*◌, ◌<◌, ◌≤◌, List, [], ◌∷◌, length, drop, map, Option, Some, None, ◌≢◌, Bool, true, false, cond, refl, sym, ◌∙◌, ap, subst, arith, ◌⊎◌, inl, inr}
 use Rattle.std.specs.Prelude.{slice_index_or, ◌==◌}
 use Rattle.std.proofs.lemmas.Bool.{both_ways, eq-eqb}
 use Rattle.std.proofs.lemmas.Option.{none-some}
-use Rattle.tf_journal.specs.declared.entry.Entry.{Entry}
-use Rattle.tf_records.specs.declared.refusal.Refusal.{Refusal}
 use Rattle.tf_table.specs.declared.key.Key.{Key}
 use Rattle.tf_table.specs.Content.{entry_at, entry_of}
-use Rattle.tf_manifest.specs.declared.kind.Kind.{Kind}
-use Rattle.tf_manifest.specs.declared.kind.Kind.TheVariants as kind
 use Rattle.tf_manifest.specs.declared.row.Row.{Row}
 use Rattle.tf_manifest.specs.declared.row.Row.TheVariants as row
 use Rattle.tf_manifest.specs.declared.value.Value.{Value}
 use Rattle.tf_manifest.specs.Kinds.{kind_of}
 use Rattle.tf_manifest.specs.Limit.{Pushed}
-use Rattle.tf_manifest.specs.Shows.{Shows}
 use Rattle.tf_manifest.specs.Table.{Shown}
 use Rattle.tf_manifest.specs.Row.{lists_of}
 use Rattle.tf_manifest.specs.RowNames.{rows_in_order}
-use Rattle.tf_manifest.specs.View.{ShowsJournal, StoredBy, View, content_in, references_in, tables_by, value_by}
+use Rattle.tf_manifest.specs.View.{StoredBy, View, content_in, references_in, tables_by, value_by}
 use Rattle.tf_manifest.proofs.Rows.{under}
-use Rattle.tf_forest.specs.Nest.{LogsHaveValues}
-use Rattle.tf_forest.specs.Parts.{Entries, Part, parts_of, place_of, sealed_in, seen_rows, value_of_part}
-use Rattle.tf_forest.specs.Publish.{PublishesRow, needed_by, needed_for, tables_needed}
+use Rattle.tf_forest.specs.Counts.{all_references}
+use Rattle.tf_forest.specs.Parts.{Entries, parts_of, place_of, sealed_in, seen_rows, value_of_part}
+use Rattle.tf_forest.specs.Publish.{PublishesRow, entries_waiting, needed_by, needed_for, tables_needed, waiting_in}
+use Rattle.tf_forest.proofs.Measures.{tables_apart}
 use Rattle.tf_forest.proofs.CanChange.{StandFrom, all_rows_stand}
 use Rattle.tf_forest.proofs.Next.{by_row}
 use Rattle.tf_forest.proofs.Parts.{value-seen}
-use Rattle.tf_forest.proofs.Sealed.{found_sealed}
 use Rattle.tf_forest.proofs.Steps.{place_exact}
 
 -- where the rows before a place were published and the others weren't yet
@@ -35,6 +30,8 @@ pub record Going (fresh : Entries) (old now : View) (n : ℕ) : Type 0 where
   pub content : (r : Row) (key : Key) → n ≤ place_of r → content_in now r key ≡ content_in old r key
   pub references : (r : Row) → n ≤ place_of r → references_in now r ≡ references_in old r
   pub count : now.pushed.count + needed_by fresh old (drop n rows_in_order) ≡ old.pushed.count + tables_needed fresh old
+  pub few : now.pushed.count + all_references now ≤ old.pushed.count + all_references old + 2 * n
+  pub added : all_references now + old.pushed.count ≤ all_references old + now.pushed.count
   pub limit : now.pushed.limit ≡ old.pushed.limit
 
 pub starts : (fresh : Entries) (view : View) → Going fresh view view 0
@@ -43,6 +40,8 @@ starts fresh view = record {
   content = λ r key from. refl;
   references = λ r from. refl;
   count = refl;
+  few = omega arith;
+  added = omega arith;
   limit = refl;
 }
 
@@ -151,6 +150,8 @@ module _ (fresh : Entries) (old now : View) (n : ℕ) (r : Row) (going : Going f
         content = λ s key later. publishes.others.content s key (apart s later) ∙ going.content s key (omega (arith, later));
         references = λ s later. publishes.others.references s (apart s later) ∙ going.references s (omega (arith, later));
         count = let all = counted in let one = publishes.count in omega (arith, all, one);
+        few = let before = going.few in let one = publishes.few in omega (arith, before, one);
+        added = let before = going.added in let one = publishes.added in omega (arith, before, one);
         limit = publishes.limit ∙ going.limit;
       }
 
@@ -161,22 +162,33 @@ all_published fresh old now going r key = going.published r key (place_within r)
 pub all_counted : (fresh : Entries) (old now : View) → Going fresh old now 21 → now.pushed.count ≡ old.pushed.count + tables_needed fresh old
 all_counted fresh old now going = omega (arith, going.count)
 
+-- no more than two tables a row are needed
+needed_few : (fresh : Entries) (view : View) (rows : List Row) → needed_by fresh view rows ≤ 2 * length rows
+needed_few fresh view [] = omega arith
+needed_few fresh view (r ∷ rows) =
+    let own = one_few (fresh r) (references_in view r) in
+    let rest = needed_few fresh view rows in
+    omega (arith, own, rest)
+  where
+    one_few : (entries : List (Key × Option Value)) (references : ℕ) → needed_for entries references ≤ 2
+    one_few [] references = omega arith
+    one_few (entry ∷ entries) references = by_test (references == 64) where
+      by_test : (b : Bool) → cond b 2 1 ≤ 2
+      by_test true = omega arith
+      by_test false = omega arith
+
+pub all_few : (fresh : Entries) (view : View) → tables_needed fresh view ≤ 42
+all_few fresh view = needed_few fresh view rows_in_order
+
+-- what the rows before a place have, and those from it on
+pub waiting_on : (fresh : Entries) (n : ℕ) (r : Row) → n < 21 → place_of r ≡ n → waiting_in fresh (drop n rows_in_order) ≡ length (fresh r) + waiting_in fresh (drop (n + 1) rows_in_order)
+waiting_on fresh n r within stands = ap (waiting_in fresh) (rows_from n r within stands)
+
 -- a part of what is needed was counted
 pub counted_upto : (fresh : Entries) (old now : View) (n : ℕ) → Going fresh old now n → now.pushed.count ≤ old.pushed.count + tables_needed fresh old
 counted_upto fresh old now n going = omega (arith, going.count)
 
--- what is counted is no part of any row
-tables_apart : (view : View) (p : Pushed) (k : Kind) → tables_by (record view { pushed = p }) k ≡ tables_by view k
-tables_apart view p (kind.Stamp u) = refl
-tables_apart view p kind.Account = refl
-tables_apart view p kind.Transfer = refl
-tables_apart view p kind.Id = refl
-tables_apart view p (kind.Unit u) = refl
-tables_apart view p kind.State = refl
-tables_apart view p kind.Sums = refl
-tables_apart view p kind.Status = refl
-
-parts_apart : (fresh : Entries) (view : View) (p : Pushed) (r : Row) → parts_of fresh (record view { pushed = p }) r ≡ parts_of fresh view r
+pub parts_apart : (fresh : Entries) (view : View) (p : Pushed) (r : Row) → parts_of fresh (record view { pushed = p }) r ≡ parts_of fresh view r
 parts_apart fresh view p r =
     ap (λ (ts : List (Shown (StoredBy (kind_of r)))). record { fresh = fresh r; below = map (seen_rows (value_by (kind_of r))) (lists_of ts) }) (tables_apart view p (kind_of r))
 
@@ -187,31 +199,19 @@ nothing_needed fresh view (r ∷ rows) none =
     let others = nothing_needed fresh view rows none in
     omega (arith, own, others)
 
--- what a publish leaves, whether it was refused or not
-pub record Published (fresh after : Entries) (old new : View) (result : Result (Unit {0}) Refusal) : Type 0 where
-  pub content : OnOk result ((r : Row) (key : Key) → content_in new r key ≡ value_of_part (parts_of fresh old r) key)
-  pub none : OnOk result ((r : Row) → after r ≡ [])
-  pub same : OnErr result (after ≡ fresh)
-  pub tables : OnErr result (new ≡ record old { pushed = new.pushed })
-
-pub values_stay : (fresh after : Entries) (old new : View) (result : Result (Unit {0}) Refusal) → Published fresh after old new result → (r : Row) (key : Key) → value_of_part (parts_of after new r) key ≡ value_of_part (parts_of fresh old r) key
-values_stay fresh after old new (Ok done) left r key = sym (found_sealed after new r key (sym (ap (entry_at key) (left.none r)))) ∙ left.content r key
-values_stay fresh after old new (Err refusal) left r key =
-    ap (λ (f : Entries). value_of_part (parts_of f new r) key) left.same
-    ∙ ap (λ (v : View). value_of_part (parts_of fresh v r) key) left.tables
-    ∙ ap (λ (part : Part). value_of_part part key) (parts_apart fresh old new.pushed r)
-
-no_tombstone : (key : Key) (rows : List (Key × Option Value)) → rows ≡ [] → entry_at key rows ≢ Some None
+pub no_tombstone : (key : Key) (rows : List (Key × Option Value)) → rows ≡ [] → entry_at key rows ≢ Some None
 no_tombstone key rows none is = absurd (none-some None (sym (ap (entry_at key) none) ∙ is))
 
-pub logs_stay : (fresh after : Entries) (old new : View) (result : Result (Unit {0}) Refusal) → Published fresh after old new result → LogsHaveValues (parts_of fresh old) → LogsHaveValues (parts_of after new)
-logs_stay fresh after old new (Ok done) left values r log key = no_tombstone key (after r) (left.none r)
-logs_stay fresh after old new (Err refusal) left values r log key = subst (λ (f : Entries). entry_at key (f r) ≢ Some None) (sym left.same) (values r log key)
+-- nothing is needed, and nothing waits, where no mutable table has an entry
+pub none_needed : (fresh : Entries) (view : View) → ((r : Row) → fresh r ≡ []) → tables_needed fresh view ≡ 0
+none_needed fresh view none = nothing_needed fresh view rows_in_order none
 
-pub shown_alone : (fresh after : Entries) (old new : View) (result : Result (Unit {0}) Refusal) (journal : List Entry) → Published fresh after old new result → Shows (λ r key. value_of_part (parts_of after new r) key) journal → OnOk result (ShowsJournal new journal)
-shown_alone fresh after old new (Ok done) journal left shows = λ r key. found_sealed after new r key (sym (ap (entry_at key) (left.none r))) ∙ shows r key
-shown_alone fresh after old new (Err refusal) journal left shows = tt
+nothing_waits : (fresh : Entries) (rows : List Row) → ((r : Row) → fresh r ≡ []) → waiting_in fresh rows ≡ 0
+nothing_waits fresh [] none = refl
+nothing_waits fresh (r ∷ rows) none =
+    let own = ap (λ (es : List (Key × Option Value)). length es) (none r) in
+    let others = nothing_waits fresh rows none in
+    omega (arith, own, others)
 
-pub none_needed : (fresh after : Entries) (old new : View) (result : Result (Unit {0}) Refusal) → Published fresh after old new result → OnOk result (tables_needed after new ≡ 0)
-none_needed fresh after old new (Ok done) left = nothing_needed after new rows_in_order left.none
-none_needed fresh after old new (Err refusal) left = tt
+pub none_waits : (fresh : Entries) → ((r : Row) → fresh r ≡ []) → entries_waiting fresh ≡ 0
+none_waits fresh none = nothing_waits fresh rows_in_order none

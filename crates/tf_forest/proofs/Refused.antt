@@ -1,32 +1,81 @@
--- What a refused publish leaves of a forest.
-use Rattle.std.proofs.Common.{◌≡◌, ◌≤◌, ◌+◌, ℕ, List, Result, Ok, Err, OnErr, ◌∙◌, ap, subst}
+-- What a publish that isn't settled leaves of a forest, and what one that is settled does.
+use Rattle.std.proofs.Common.{◌≡◌, ◌≢◌, ℕ, List, [], Some, None, refl, sym, ◌∙◌, ◌+◌, ap, subst, arith}
 use Rattle.tf_journal.specs.declared.entry.Entry.{Entry}
-use Rattle.tf_records.specs.declared.refusal.Refusal.{Refusal}
+use Rattle.tf_table.specs.declared.key.Key.{Key}
+use Rattle.tf_table.specs.Content.{entry_at}
+use Rattle.tf_manifest.specs.declared.row.Row.{Row}
 use Rattle.tf_manifest.specs.Limit.{Pushed}
-use Rattle.tf_manifest.specs.View.{View as Tables}
+use Rattle.tf_manifest.specs.Shows.{Shows}
+use Rattle.tf_manifest.specs.View.{ShowsJournal, View as Tables}
+use Rattle.tf_forest.specs.Counts.{Loses, Sealed}
 use Rattle.tf_forest.specs.Forest.{View, journal_in}
-use Rattle.tf_forest.specs.Parts.{Entries, parts_of}
-use Rattle.tf_forest.specs.Publish.{tables_needed}
+use Rattle.tf_forest.specs.Nest.{LogsHaveValues}
+use Rattle.tf_forest.specs.Next.{content_in}
+use Rattle.tf_forest.specs.Parts.{Entries, Part, parts_of, value_of_part}
+use Rattle.tf_forest.specs.Publish.{entries_waiting, tables_needed}
 use Rattle.tf_forest.specs.Unpublished.{IsUnpublished}
-use Rattle.tf_forest.proofs.PublishRows.{Published}
+use Rattle.tf_forest.proofs.PublishRows.{no_tombstone, parts_apart}
+use Rattle.tf_forest.proofs.Sealed.{found_sealed}
 
-pub unpublished : (fresh after : Entries) (old new : Tables) (result : Result (Unit {0}) Refusal) (clock kept : ℕ) (view : View)
-    → record { journal = journal_in (parts_of fresh old); sealed = old; needed = tables_needed fresh old; clock = clock; kept = kept } ≡ view
-    → Published fresh after old new result → journal_in (parts_of after new) ≡ journal_in (parts_of fresh old)
-    → new.pushed.limit ≡ old.pushed.limit → old.pushed.count ≤ new.pushed.count → new.pushed.count ≤ old.pushed.count + tables_needed fresh old
-    → OnErr result (IsUnpublished view (record { journal = journal_in (parts_of after new); sealed = new; needed = tables_needed after new; clock = clock; kept = kept }))
-unpublished fresh after old new (Ok done) clock kept view is left journal limit least most = tt
-unpublished fresh after old new (Err refusal) clock kept view is left journal limit least most =
-    let seen : List Entry → Tables → ℕ → View = λ j s n. record { journal = j; sealed = s; needed = n; clock = clock; kept = kept } in
-    let was : List Entry = journal_in (parts_of fresh old) in
-    let pushed : Pushed = record { count = new.pushed.count; limit = old.pushed.limit } in
-    let tables : new ≡ record old { pushed = pushed } = left.tables ∙ ap (λ (l : ℕ). record old { pushed = record { count = new.pushed.count; limit = l } }) limit in
-    subst (λ (v : View). IsUnpublished v (seen (journal_in (parts_of after new)) new (tables_needed after new))) is
-    (record {
-      count = new.pushed.count;
-      is = ap (λ (j : List Entry). seen j new (tables_needed after new)) journal
-          ∙ ap (λ (f : Entries). seen was new (tables_needed f new)) left.same
-          ∙ ap (λ (v : Tables). seen was v (tables_needed fresh v)) tables;
-      least = least;
-      most = most;
-    })
+module _ (fresh after : Entries) (old new : Sealed) (most : ℕ) (same : after ≡ fresh) (loses : Loses old new most) where
+  tables : new.tables ≡ record old.tables { pushed = new.tables.pushed }
+  tables =
+      let is : new.tables ≡ record old.tables { pushed = record { count = old.tables.pushed.count + loses.tables; limit = old.tables.pushed.limit } } = ap (λ (s : Sealed). s.tables) loses.is in
+      is ∙ ap (λ (p : Pushed). record old.tables { pushed = p }) (sym (ap (λ (v : Tables). v.pushed) is))
+
+  pub values_stay : (r : Row) (key : Key) → value_of_part (parts_of after new.tables r) key ≡ value_of_part (parts_of fresh old.tables r) key
+  values_stay r key =
+      ap (λ (f : Entries). value_of_part (parts_of f new.tables r) key) same
+      ∙ ap (λ (v : Tables). value_of_part (parts_of fresh v r) key) tables
+      ∙ ap (λ (part : Part). value_of_part part key) (parts_apart fresh old.tables new.tables.pushed r)
+
+  pub logs_stay : LogsHaveValues (parts_of fresh old.tables) → LogsHaveValues (parts_of after new.tables)
+  logs_stay values r log key = subst (λ (f : Entries). entry_at key (f r) ≢ Some None) (sym same) (values r log key)
+
+  pub unpublished : (clock kept : ℕ) (view : View)
+      → record { journal = journal_in (parts_of fresh old.tables); sealed = old; needed = tables_needed fresh old.tables; waiting = entries_waiting fresh; clock = clock; kept = kept } ≡ view
+      → most ≡ view.needed → journal_in (parts_of after new.tables) ≡ journal_in (parts_of fresh old.tables)
+      → IsUnpublished view (record { journal = journal_in (parts_of after new.tables); sealed = new; needed = tables_needed after new.tables; waiting = entries_waiting after; clock = clock; kept = kept })
+  unpublished clock kept view is all journal =
+      let seen : List Entry → ℕ → ℕ → View = λ j n w. record { journal = j; sealed = new; needed = n; waiting = w; clock = clock; kept = kept } in
+      let was : List Entry = journal_in (parts_of fresh old.tables) in
+      let now : View = seen (journal_in (parts_of after new.tables)) (tables_needed after new.tables) (entries_waiting after) in
+      let left : now ≡ seen was (tables_needed fresh old.tables) (entries_waiting fresh) =
+      ap (λ (j : List Entry). seen j (tables_needed after new.tables) (entries_waiting after)) journal
+      ∙ ap (λ (f : Entries). seen was (tables_needed f new.tables) (entries_waiting f)) same
+      ∙ ap (λ (v : Tables). seen was (tables_needed fresh v) (entries_waiting fresh)) tables in
+      record {
+        is = left ∙ ap (λ (v : View). record v { sealed = new }) is;
+        loses = subst (λ (n : ℕ). Loses view.sealed new n) all (subst (λ (s : Sealed). Loses s new most) (ap (λ (v : View). v.sealed) is) loses);
+      }
+
+-- nothing was pushed
+pub nothing_lost : (sealed : Sealed) (most : ℕ) → Loses sealed sealed most
+nothing_lost sealed most =
+    let seen : ℕ → ℕ → ℕ → ℕ → Sealed = λ n r h p. record {
+      tables = record sealed.tables { pushed = record { count = n; limit = sealed.tables.pushed.limit } };
+      counts = record { rows_sealed = r; rows_held = h; publishes = p };
+    } in
+    let count = sealed.tables.pushed.count in
+    let counts = sealed.counts in
+    let same : (n : ℕ) → n ≡ n + 0 = λ n. omega arith in
+    record {
+      tables = 0;
+      rows = 0;
+      is =
+          ap (λ (n : ℕ). seen n counts.rows_sealed counts.rows_held counts.publishes) (same count)
+          ∙ ap (λ (n : ℕ). seen (count + 0) n counts.rows_held counts.publishes) (same counts.rows_sealed)
+          ∙ ap (λ (n : ℕ). seen (count + 0) (counts.rows_sealed + 0) n counts.publishes) (same counts.rows_held)
+          ∙ ap (λ (n : ℕ). seen (count + 0) (counts.rows_sealed + 0) (counts.rows_held + 0) n) (same counts.publishes);
+      few = omega arith;
+      none = λ none. refl;
+    }
+
+-- mutable tables without entries in front of tables that alone show the journal
+module _ (after : Entries) (new : Tables) (none : (r : Row) → after r ≡ []) where
+  pub values_alone : (old : Entries) (was : Tables) (journal : List Entry) → ShowsJournal new journal → Shows (content_in (parts_of old was)) journal
+      → (r : Row) (key : Key) → value_of_part (parts_of after new r) key ≡ value_of_part (parts_of old was r) key
+  values_alone old was journal alone shows r key = sym (found_sealed after new r key (sym (ap (entry_at key) (none r)))) ∙ alone r key ∙ sym (shows r key)
+
+  pub logs_alone : LogsHaveValues (parts_of after new)
+  logs_alone r log key = no_tombstone key (after r) (none r)

@@ -7,14 +7,18 @@ use Rattle.tf_manifest.specs.declared.row.Row.{Row}
 use Rattle.tf_manifest.specs.declared.value.Value.{Value}
 use Rattle.tf_manifest.specs.Rows.{Pair}
 use Rattle.tf_manifest.specs.Shows.{Shows, journal_of}
-use Rattle.tf_manifest.specs.View as manifest
 use Rattle.tf_forest.specs.declared.change.Step.{Step}
 use Rattle.tf_forest.specs.declared.floors.Floors.{Floors}
+use Rattle.tf_forest.specs.declared.former.Formers.{Formers}
+use Rattle.tf_forest.specs.declared.found.Party.{Party}
 use Rattle.tf_forest.specs.Changes.{CanStepAll, all_stepped}
+use Rattle.tf_forest.specs.Edits.{party_of}
+use Rattle.tf_forest.specs.Counts.{Sealed}
 use Rattle.tf_forest.specs.Floors.{HaveFloors}
 use Rattle.tf_forest.specs.Nest.{LogsHaveValues}
 use Rattle.tf_forest.specs.Next.{content_in}
 use Rattle.tf_forest.specs.Parts.{Parts}
+use Rattle.tf_forest.specs.Resident.{AreAmong, accounts_before}
 
 -- the pairs of rows: their keys that have values, in order
 abbrev pub pairs_in : Parts → Row → List Pair
@@ -30,32 +34,39 @@ pub record ShowTheirJournal (rows : Parts) : Type 0 where
   pub shows : Shows (content_in rows) (journal_in rows)
   pub values : LogsHaveValues rows
 
+-- what takes an entry back: the steps in the rows, and the accounts that it changed as they were
+pub record Noted : Type 0 where
+  pub steps : List Step
+  pub formers : Formers
+
 -- the rows before the entries that notes take back, the newest first
-abbrev pub all_undone : List (List Step) → Parts → Parts
+abbrev pub all_undone : List Noted → Parts → Parts
 all_undone [] rows = rows
-all_undone (note ∷ notes) rows = all_stepped note (all_undone notes rows)
+all_undone (note ∷ notes) rows = all_stepped note.steps (all_undone notes rows)
 
 -- of a set of rows: which are in it, what values they store, and which take an entry for any key
 module _ (has : Row → Bool) (fits : Row → Value → Bool) (takes_any : Row → Type 0) where
-  -- the steps that take the last entry back
-  pub record TakesBack (note : List Step) (rows : Parts) : Type 0 where
-    pub can : CanStepAll has fits takes_any note rows
-    pub shows : ShowTheirJournal (all_stepped note rows)
+  -- a note that takes the last entry back
+  pub record TakesBack (note : Noted) (rows : Parts) : Type 0 where
+    pub can : CanStepAll has fits takes_any note.steps rows
+    pub shows : ShowTheirJournal (all_stepped note.steps rows)
     pub last : Entry
-    pub added : journal_in rows ≡ journal_in (all_stepped note rows) ++ last ∷ []
+    pub added : journal_in rows ≡ journal_in (all_stepped note.steps rows) ++ last ∷ []
+    pub accounts : (id : ℕ) → accounts_before note.formers (party_of (journal_in rows)) id ≡ party_of (journal_in (all_stepped note.steps rows)) id
 
   -- each note takes back the entry that was last, once the newer ones are taken back
-  abbrev pub AreRight : List (List Step) → Parts → Type 0
+  abbrev pub AreRight : List Noted → Parts → Type 0
   AreRight [] rows = ⊤
   AreRight (note ∷ notes) rows = AreRight notes rows × TakesBack note (all_undone notes rows)
 
-  -- what always holds of a forest: its rows show their journal, a note takes back each entry that isn't kept, and no
-  -- transfer can expire below its floors
-  pub record IsForest (rows : Parts) (notes : List (List Step)) (kept : ℕ) (lows : Floors) : Type 0 where
+  -- what always holds of a forest: its rows show their journal, a note takes back each entry that isn't kept, no transfer
+  -- can expire below its floors, and the accounts that it holds are right
+  pub record IsForest (rows : Parts) (notes : List Noted) (kept : ℕ) (lows : Floors) (held : List (ℕ × Party)) : Type 0 where
     pub shows : ShowTheirJournal rows
     pub right : AreRight notes rows
     pub count : length (journal_in rows) ≡ kept + length notes
     pub floors : HaveFloors lows (journal_in rows) kept
+    pub resident : AreAmong (party_of (journal_in rows)) held
 
 -- a journal without so many of its last entries
 pub record IsCut (old new : List Entry) (count : ℕ) : Type 0 where
@@ -63,11 +74,12 @@ pub record IsCut (old new : List Entry) (count : ℕ) : Type 0 where
   pub is : old ≡ new ++ undone
   pub many : length undone ≡ count
 
--- what contracts see of a forest: its journal, its rows' sealed tables, how many more a publish would push, the clock, and
--- how many entries stand for good
+-- what contracts see of a forest: its journal, its rows' sealed tables with what was counted of them, how many tables a
+-- publish would push, how many entries it would seal, the clock, and how many entries of the journal stand for good
 pub record View : Type 0 where
   pub journal : List Entry
-  pub sealed : manifest.View
+  pub sealed : Sealed
   pub needed : ℕ
+  pub waiting : ℕ
   pub clock : ℕ
   pub kept : ℕ

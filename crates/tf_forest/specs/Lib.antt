@@ -1,6 +1,7 @@
 pub mod Edits
 pub mod Back
 pub mod Fresh
+pub mod Counts
 pub mod LookUps
 pub mod Held
 pub mod Parts
@@ -9,6 +10,7 @@ pub mod Next
 pub mod Range
 pub mod Nest
 pub mod Floors
+pub mod Resident
 pub mod Forest
 pub mod SealedRow
 pub mod Publish

@@ -1,10 +1,9 @@
--- What a refused publish leaves.
-use Rattle.std.specs.Prelude.{◌≡◌, ℕ, ◌+◌, ◌≤◌}
+-- What a publish that isn't settled leaves.
+use Rattle.std.specs.Prelude.{◌≡◌}
+use Rattle.tf_forest.specs.Counts.{Loses}
 use Rattle.tf_forest.specs.Forest.{View}
 
--- everything is as it was, but that some of the tables that were needed stay counted
+-- everything is as it was, but that some of the tables that were needed were pushed, and stay counted
 pub record IsUnpublished (old new : View) : Type 0 where
-  pub count : ℕ
-  pub is : new ≡ record old { sealed = record old.sealed { pushed = record { count = count; limit = old.sealed.pushed.limit } } }
-  pub least : old.sealed.pushed.count ≤ count
-  pub most : count ≤ old.sealed.pushed.count + old.needed
+  pub is : new ≡ record old { sealed = new.sealed }
+  pub loses : Loses old.sealed new.sealed old.needed

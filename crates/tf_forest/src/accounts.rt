@@ -4,9 +4,10 @@ ghost use Rattle.tf_journal.specs.declared.entry.Entry.{Entry};
 ghost use Rattle.tf_forest.specs.Changes.{present};
 ghost use Rattle.tf_forest.specs.Edits.{new_state, nothing_found};
 ghost use Rattle.tf_forest.specs.Next.{changes_by};
+ghost use Rattle.tf_forest.specs.Resident.{new_party};
 
-use crate::Change;
 use crate::row_change::{index, put};
+use crate::{Change, Party};
 use tf_journal::is_marked_closed;
 use tf_manifest::{Row, State, Value};
 use tf_records::{Account, Sums};
@@ -23,6 +24,16 @@ fn new_state(account: &Account) -> State
             credits_posted: 0,
         },
         closed: is_marked_closed(account),
+    }
+}
+
+/// A new account, with its state.
+pub(crate) fn new_party(account: &Account) -> Party
+    ensures { result ≡ new_party account.now }
+{
+    Party {
+        account: *account,
+        state: new_state(account),
     }
 }
 

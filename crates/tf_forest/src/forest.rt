@@ -4,23 +4,28 @@ ghost use Rattle.tf_forest.specs.Floors.{IsFloor};
 ghost use Rattle.tf_forest.specs.Forest.{ShowTheirJournal, journal_in};
 ghost use Rattle.tf_forest.specs.Nest.{AreEmpty};
 ghost use Rattle.tf_forest.specs.Parts.{fresh_in};
-ghost use Rattle.tf_forest.specs.Publish.{tables_needed};
+ghost use Rattle.tf_forest.specs.Publish.{entries_waiting, tables_needed};
 ghost use Rattle.tf_journal.specs.declared.entry.Entry.{Entry};
 ghost use Rattle.tf_journal.specs.Journal.{IsUpTo, is_failed};
+ghost use Rattle.tf_journal.specs.Laws.{IsWithinLimits};
+ghost use Rattle.tf_journal.specs.Lawful.{IsSound};
 ghost use Rattle.tf_journal.specs.Ledger.{CanGrow, IsAddition};
 ghost use Rattle.tf_journal.specs.Lookup.{id_use_of, shown_with_id, transfer_with_id};
 ghost use Rattle.tf_journal.specs.Status.{status_at};
 
 use crate::floors::Floors;
+use crate::former::formers_of;
+use crate::found::look_up;
+use crate::look_ups::shown;
 use crate::note::{Note, make_room, note_down, undo_to};
+use crate::resident::Resident;
 use crate::{
-    AllRows, account, add_entry, entries_leave_sums_in_range, id_use, look_up,
-    next_entry_can_be_added, rows_answer_look_ups, rows_spell_the_journal_they_show, status,
-    transfer,
+    AllRows, account, add_entry, entries_leave_sums_in_range, id_use, next_entry_can_be_added,
+    rows_answer_look_ups, rows_spell_the_journal_they_show, status, transfer,
 };
 use std::alloc::Allocator;
 use std::marker::Model;
-use tf_journal::{Entry, IdUse, Mark, Status, ids_are_unique};
+use tf_journal::{Entry, IdUse, Mark, Status, ids_are_unique, journals_are_within_limits};
 use tf_manifest::Row;
 use tf_records::{Account, Refusal, TIMESTAMP_MAX, Transfer};
 use tf_table::Key;
@@ -28,7 +33,8 @@ use tf_table::Key;
 /// A ledger over 21 rows, with a note for each entry that isn't kept.
 ///
 /// Its journal is the one that the rows spell. Contracts see the journal, the clock and the kept length. A look-up takes a
-/// few look-ups in rows, whatever the journal's length.
+/// few look-ups in rows, whatever the journal's length, and that of an account in use one search of a tree beside them. It
+/// holds 65,536 accounts at most, and where memory for one is refused it does without.
 #[derive(Drop)]
 pub struct Forest<S: AllRows + Drop, A: Allocator + Copy> {
     pub(crate) rows: S,
@@ -37,6 +43,8 @@ pub struct Forest<S: AllRows + Drop, A: Allocator + Copy> {
     pub(crate) clock: u64,
     pub(crate) kept: usize,
     pub(crate) floors: Floors,
+    /// The accounts in use, which are looked up here first.
+    pub(crate) resident: Resident<A>,
     pub(crate) alloc: A,
 }
 
@@ -47,11 +55,11 @@ impl<S: AllRows + Drop, A: Allocator + Copy> Model for Forest<S, A> {
 
     ghost use Rattle.tf_forest.specs.Forest.{IsForest, journal_in};
     ghost use Rattle.tf_forest.specs.Parts.{fresh_in};
-    ghost use Rattle.tf_forest.specs.Publish.{tables_needed};
+    ghost use Rattle.tf_forest.specs.Publish.{entries_waiting, tables_needed};
 
-    ghost view = { λ f. record { journal = journal_in (S.parts f.rows); sealed = S.sealed f.rows; needed = tables_needed (fresh_in (S.parts f.rows)) (S.sealed f.rows); clock = f.clock; kept = f.kept } };
+    ghost view = { λ f. record { journal = journal_in (S.parts f.rows); sealed = S.sealed f.rows; needed = tables_needed (fresh_in (S.parts f.rows)) (S.sealed f.rows).tables; waiting = entries_waiting (fresh_in (S.parts f.rows)); clock = f.clock; kept = f.kept } };
 
-    ghost invariant = { λ f. IsForest S.has_row S.fits S.takes_any (S.parts f.rows) f.notes.items f.kept f.floors };
+    ghost invariant = { λ f. IsForest S.has_row S.fits S.takes_any (S.parts f.rows) f.notes.items f.kept f.floors f.resident };
 }
 
 impl<S: AllRows + Drop, A: Allocator + Copy> Forest<S, A> {
@@ -72,6 +80,7 @@ impl<S: AllRows + Drop, A: Allocator + Copy> Forest<S, A> {
             clock: 0,
             kept: 0,
             floors: Floors::new(),
+            resident: Resident::new(alloc),
             alloc,
         }
     }
@@ -82,10 +91,22 @@ impl<S: AllRows + Drop, A: Allocator + Copy> Forest<S, A> {
         ensures journal { journal_in (S.parts result.now) ≡ self.now.journal }
         ensures shows { ShowTheirJournal (S.parts result.now) }
         ensures kept { self.now.kept ≤ length self.now.journal }
-        ensures needed { tables_needed (fresh_in (S.parts result.now)) (S.sealed result.now) ≡ self.now.needed }
+        ensures needed { tables_needed (fresh_in (S.parts result.now)) (S.sealed result.now).tables ≡ self.now.needed }
+        ensures waiting { entries_waiting (fresh_in (S.parts result.now)) ≡ self.now.waiting }
         ensures sealed { S.sealed result.now ≡ self.now.sealed }
     {
         &self.rows
+    }
+
+    /// What always holds of the journal: it is sound and within limits, and what is kept of it is there. It does nothing.
+    pub fn facts(&self)
+        ensures sound { IsSound self.now.journal }
+        ensures limits { IsWithinLimits self.now.journal }
+        ensures kept { self.now.kept ≤ length self.now.journal }
+    {
+        journals_are_within_limits();
+        // Only a field that is read tells what holds of the whole.
+        let _kept = self.kept;
     }
 
     /// The moment after which the next timestamps are given out, 0 at first. It takes no memory.
@@ -96,12 +117,16 @@ impl<S: AllRows + Drop, A: Allocator + Copy> Forest<S, A> {
         self.clock
     }
 
-    /// The account with this id, its four sums filled in, and marked as closed where it is: by three look-ups in rows.
+    /// The account with this id, its four sums filled in, and marked as closed where it is: by one look-up among the accounts
+    /// in use, and three in rows where it isn't among them.
     pub fn account(&self, id: u128) -> Option<Account>
         ensures { result ≡ shown_with_id self.now.journal id }
     {
         rows_answer_look_ups();
-        account(&self.rows, id)
+        match self.resident.get(id) {
+            Some(party) => Some(shown(&party)),
+            None => account(&self.rows, id),
+        }
     }
 
     /// The transfer with this id: by two look-ups in rows.
@@ -150,8 +175,9 @@ impl<S: AllRows + Drop, A: Allocator + Copy> Forest<S, A> {
         self.add(&Entry::Account(account))
     }
 
-    /// Stores a transfer, which the journal admits, by what is looked up for it: three look-ups in rows for each of its
-    /// accounts, and two for the pending transfer that it posts or voids. `NoMemory` leaves all as it was.
+    /// Stores a transfer, which the journal admits, by what is looked up for it: for each of its accounts one look-up among
+    /// those in use, or three more in rows, and two in rows for the pending transfer that it posts or voids. Both accounts
+    /// are in use afterwards. `NoMemory` leaves all as it was.
     pub fn add_transfer(&mut self, transfer: Transfer) -> Result<(), Refusal>
         requires { CanGrow self.old.journal (Entry.Transfer transfer) }
         ensures addition { IsAddition (λ f. f.journal) (λ f. f.clock) (λ f. f.kept) self.old self.new (Entry.Transfer transfer) result }
@@ -162,7 +188,8 @@ impl<S: AllRows + Drop, A: Allocator + Copy> Forest<S, A> {
     }
 
     /// Stores that the time of a pending transfer, named by its timestamp, is over, by what is looked up for it: two
-    /// look-ups in rows for the transfer, and three for each of its accounts. `NoMemory` leaves all as it was.
+    /// look-ups in rows for the transfer, and for each of its accounts one among those in use, or three more in rows.
+    /// `NoMemory` leaves all as it was.
     pub fn add_expiry(&mut self, timestamp: u64, pending: u64) -> Result<(), Refusal>
         requires { CanGrow self.old.journal (Entry.Expiry timestamp pending) }
         ensures addition { IsAddition (λ f. f.journal) (λ f. f.clock) (λ f. f.kept) self.old self.new (Entry.Expiry timestamp pending) result }
@@ -193,13 +220,15 @@ impl<S: AllRows + Drop, A: Allocator + Copy> Forest<S, A> {
         next_entry_can_be_added();
         rows_spell_the_journal_they_show();
         entries_leave_sums_in_range();
-        let found = look_up(&self.rows, entry);
+        rows_answer_look_ups();
+        let found = look_up(&self.rows, &self.resident, entry);
         let steps = match add_entry(&mut self.rows, self.alloc, &found, entry) {
             Ok(steps) => steps,
             Err(refusal) => return Err(refusal),
         };
         self.floors = self.floors.after(entry, &found);
-        note_down(&mut self.notes, Note::new(steps));
+        self.resident.after(entry, &found);
+        note_down(&mut self.notes, Note::new(steps, formers_of(&found, entry)));
         Ok(())
     }
 
@@ -222,7 +251,7 @@ impl<S: AllRows + Drop, A: Allocator + Copy> Forest<S, A> {
     }
 
     /// Cuts the journal back to a mark that isn't below what was last kept. It takes no memory, and as many steps as the
-    /// entries changed keys.
+    /// entries changed keys. The accounts of the entries have their former states again.
     pub fn undo(&mut self, to: Mark)
         requires not_kept { self.old.kept ≤ to.length }
         requires present { to.length ≤ length self.old.journal }
@@ -231,13 +260,19 @@ impl<S: AllRows + Drop, A: Allocator + Copy> Forest<S, A> {
         ensures length_kept { self.new.kept ≡ self.old.kept }
         ensures sealed { self.new.sealed ≡ self.old.sealed }
     {
-        undo_to(&mut self.rows, &mut self.notes, to.length - self.kept);
+        undo_to(
+            &mut self.rows,
+            &mut self.resident,
+            &mut self.notes,
+            to.length - self.kept,
+        );
         self.floors = self.floors.back();
     }
 
     /// Lets all entries stand for good, and sets the clock, to which no entry is younger. It takes no memory.
     ///
-    /// It looks for the first key of expiry, past the tombstones of those that came before it.
+    /// It looks for the first key of expiry, past the tombstones of those that came before it. Where as many accounts in use
+    /// are held as may be, it lets go of them all.
     pub fn keep(&mut self, moment: u64)
         requires up_to { IsUpTo moment self.old.journal }
         requires in_range { moment ≤ TIMESTAMP_MAX }
@@ -250,6 +285,7 @@ impl<S: AllRows + Drop, A: Allocator + Copy> Forest<S, A> {
         self.floors = Floors::at(first);
         self.kept += self.notes.len();
         self.notes.clear();
+        self.resident.make_place();
         self.clock = moment;
     }
 }

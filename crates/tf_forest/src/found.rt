@@ -7,9 +7,12 @@ ghost use Rattle.tf_journal.specs.declared.entry.Entry.{Entry};
 ghost use Rattle.tf_forest.specs.Edits.{found_by_expiry, found_by_transfer, found_for, nothing_found};
 ghost use Rattle.tf_forest.specs.LookUps.{found_read, party_read, pending_read, transfer_read};
 ghost use Rattle.tf_forest.specs.Next.{content_in};
+ghost use Rattle.tf_forest.specs.Resident.{AreAmong};
 
 use crate::look_ups::{party, pending, transfer};
+use crate::resident::Resident;
 use crate::{RowSet, rows_answer_look_ups};
+use std::alloc::Allocator;
 use tf_journal::{Entry, is_settling};
 use tf_manifest::State;
 use tf_records::{Account, Transfer};
@@ -40,13 +43,35 @@ fn nothing() -> Found
     }
 }
 
+/// The account with this id and its state: by one look-up among the accounts that are held, and three in rows where it
+/// isn't among them.
+fn party_with<S: RowSet, A: Allocator + Clone>(
+    rows: &S,
+    resident: &Resident<A>,
+    id: u128,
+) -> Option<Party>
+    requires has { (r : Row) → IsTrue (S.has_row r) }
+    requires held { AreAmong (party_read (content_in (S.parts rows.now))) resident.now }
+    ensures { result ≡ party_read (content_in (S.parts rows.now)) id }
+{
+    match resident.get(id) {
+        Some(party) => Some(party),
+        None => party(rows, id),
+    }
+}
+
 /// What rows have for a transfer.
-fn for_transfer<S: RowSet>(rows: &S, adding: &Transfer) -> Found
-    requires { (r : Row) → IsTrue (S.has_row r) }
+fn for_transfer<S: RowSet, A: Allocator + Clone>(
+    rows: &S,
+    resident: &Resident<A>,
+    adding: &Transfer,
+) -> Found
+    requires has { (r : Row) → IsTrue (S.has_row r) }
+    requires held { AreAmong (party_read (content_in (S.parts rows.now))) resident.now }
     ensures { result ≡ found_by_transfer (party_read (content_in (S.parts rows.now))) (transfer_read (content_in (S.parts rows.now))) adding.now }
 {
-    let debit = party(rows, adding.debit_account_id);
-    let credit = party(rows, adding.credit_account_id);
+    let debit = party_with(rows, resident, adding.debit_account_id);
+    let credit = party_with(rows, resident, adding.credit_account_id);
     let settled = if is_settling(adding) {
         transfer(rows, adding.pending_id)
     } else {
@@ -60,15 +85,20 @@ fn for_transfer<S: RowSet>(rows: &S, adding: &Transfer) -> Found
 }
 
 /// What rows have for an expiry of the pending transfer with this timestamp.
-fn for_expiry<S: RowSet>(rows: &S, timestamp: u64) -> Found
-    requires { (r : Row) → IsTrue (S.has_row r) }
+fn for_expiry<S: RowSet, A: Allocator + Clone>(
+    rows: &S,
+    resident: &Resident<A>,
+    timestamp: u64,
+) -> Found
+    requires has { (r : Row) → IsTrue (S.has_row r) }
+    requires held { AreAmong (party_read (content_in (S.parts rows.now))) resident.now }
     ensures { result ≡ found_by_expiry (party_read (content_in (S.parts rows.now))) (pending_read (content_in (S.parts rows.now)) timestamp) }
 {
     let Some(expiring) = pending(rows, timestamp) else {
         return nothing();
     };
-    let debit = party(rows, expiring.debit_account_id);
-    let credit = party(rows, expiring.credit_account_id);
+    let debit = party_with(rows, resident, expiring.debit_account_id);
+    let credit = party_with(rows, resident, expiring.credit_account_id);
     Found {
         debit,
         credit,
@@ -76,17 +106,22 @@ fn for_expiry<S: RowSet>(rows: &S, timestamp: u64) -> Found
     }
 }
 
-/// Looks up in rows what the changes of an entry are computed from, by three look-ups for each of two accounts and two
-/// for a pending transfer. Takes no memory.
-pub fn look_up<S: RowSet>(rows: &S, entry: &Entry) -> Found
-    requires { (r : Row) → IsTrue (S.has_row r) }
+/// Looks up what the changes of an entry are computed from: two accounts, each among those that are held or by three
+/// look-ups in rows, and a pending transfer by two. Takes no memory.
+pub(crate) fn look_up<S: RowSet, A: Allocator + Clone>(
+    rows: &S,
+    resident: &Resident<A>,
+    entry: &Entry,
+) -> Found
+    requires has { (r : Row) → IsTrue (S.has_row r) }
+    requires held { AreAmong (party_read (content_in (S.parts rows.now))) resident.now }
     ensures read { result ≡ found_read (content_in (S.parts rows.now)) entry.now }
     ensures found { (journal : List Entry) → IsSound journal → Shows (content_in (S.parts rows.now)) journal → result ≡ found_for journal entry.now }
 {
     rows_answer_look_ups();
     match entry {
-        Entry::Transfer(adding) => for_transfer(rows, adding),
-        Entry::Expiry { pending, .. } => for_expiry(rows, *pending),
+        Entry::Transfer(adding) => for_transfer(rows, resident, adding),
+        Entry::Expiry { pending, .. } => for_expiry(rows, resident, *pending),
         Entry::Account(_) | Entry::Failed { .. } => nothing(),
     }
 }

@@ -14,6 +14,7 @@ ghost use Rattle.tf_forest.specs.LookUps.{found_read, party_read, pending_read, 
 ghost use Rattle.tf_forest.specs.Next.{changes, content_in};
 ghost use Rattle.tf_forest.specs.Parts.{Parts};
 ghost use Rattle.tf_forest.specs.Range.{LeavesInRange};
+ghost use Rattle.tf_forest.specs.Resident.{accounts_after, accounts_before, formers_of};
 ghost use Rattle.tf_journal.specs.declared.entry.Entry.{Entry};
 ghost use Rattle.tf_journal.specs.Due.{due};
 ghost use Rattle.tf_journal.specs.Journal.{last_timestamp};
@@ -83,6 +84,16 @@ pub fn entries_leave_sums_in_range()
     rows_are_maps();
     journals_are_within_limits();
     // Each state that a transfer leaves is one that the rows have afterwards, and no sum of a ledger wraps.
+}
+
+/// What a journal's next entry changes in its accounts and their states, by what was looked up for it, and how they were
+/// before it. Does nothing.
+pub(crate) fn accounts_change_as_found()
+    ensures after { (journal : List Entry) (e : Entry) → IsSound journal → CanGrow journal e → (id : ℕ) → accounts_after (found_for journal e) e (party_of journal) id ≡ party_of (journal ++ e ∷ []) id }
+    ensures before { (journal : List Entry) (e : Entry) → IsSound journal → CanGrow journal e → (id : ℕ) → accounts_before (formers_of (found_for journal e) e) (party_of (journal ++ e ∷ [])) id ≡ party_of journal id }
+{
+    rows_are_maps();
+    // The states of the accounts are those that the edits of their row say.
 }
 
 /// The transfers that are due at a moment, in the order of their expiry, are those of the pairs of expiry whose keys are

@@ -2,7 +2,7 @@
 ghost use Rattle.std.specs.Prelude.{◌≡◌, IsTrue};
 ghost use Rattle.tf_manifest.specs.declared.row.Row.{Row};
 ghost use Rattle.tf_manifest.specs.Rows.{key_of};
-ghost use Rattle.tf_forest.specs.LookUps.{account_read, party_read, pending_read, shown_read, state_read, status_read, transfer_at, transfer_read, use_read};
+ghost use Rattle.tf_forest.specs.LookUps.{account_read, party_read, pending_read, shown_party, shown_read, state_read, status_read, transfer_at, transfer_read, use_read};
 ghost use Rattle.tf_forest.specs.Next.{content_in};
 
 use crate::{Party, RowSet};
@@ -53,28 +53,34 @@ pub fn party<S: RowSet>(rows: &S, id: u128) -> Option<Party>
     Some(Party { account, state })
 }
 
-/// The account with this id as answers show it, by three look-ups in rows.
-pub fn account<S: RowSet>(rows: &S, id: u128) -> Option<Account>
-    requires { (r : Row) → IsTrue (S.has_row r) }
-    ensures { result ≡ shown_read (content_in (S.parts rows.now)) id }
+/// An account as answers show it, by its state.
+pub(crate) fn shown(party: &Party) -> Account
+    ensures { result ≡ shown_party party.now }
 {
-    let Party {
-        account: stored,
-        state,
-    } = party(rows, id)?;
+    let stored = party.account;
+    let state = party.state;
     let flags = if state.closed {
         stored.flags | Account::CLOSED
     } else {
         stored.flags
     };
-    Some(Account {
+    Account {
         debits_pending: state.sums.debits_pending,
         debits_posted: state.sums.debits_posted,
         credits_pending: state.sums.credits_pending,
         credits_posted: state.sums.credits_posted,
         flags,
         ..stored
-    })
+    }
+}
+
+/// The account with this id as answers show it, by three look-ups in rows.
+pub fn account<S: RowSet>(rows: &S, id: u128) -> Option<Account>
+    requires { (r : Row) → IsTrue (S.has_row r) }
+    ensures { result ≡ shown_read (content_in (S.parts rows.now)) id }
+{
+    let party = party(rows, id)?;
+    Some(shown(&party))
 }
 
 /// The stored transfer with this timestamp.

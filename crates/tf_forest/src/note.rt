@@ -1,64 +1,75 @@
 //! Notes that take the last entries of rows back.
 ghost use Rattle.std.specs.Prelude.{◌≡◌, ◌<◌, ◌≤◌, ◌-◌, ◌∷◌, ◌++◌, [], length, vec_capacity, vec_len, OnOk, IfErr};
 ghost use Rattle.tf_forest.specs.Changes.{CanStepAll, all_stepped};
+ghost use Rattle.tf_forest.specs.Edits.{party_of};
 ghost use Rattle.tf_forest.specs.Forest.{AreRight, IsCut, ShowTheirJournal, journal_in};
+ghost use Rattle.tf_forest.specs.Resident.{Accounts, AreAmong, accounts_before};
 
+use crate::former::Formers;
+use crate::resident::Resident;
 use crate::{RowSet, Step, take_steps};
 use std::alloc::Allocator;
 use std::marker::Model;
 use tf_records::Refusal;
 
-/// The steps that take one entry back. Contracts see their list.
+/// What takes one entry back: steps in the rows, and the accounts that it changed as they were.
 #[derive(Drop)]
 pub(crate) struct Note<A: Allocator> {
     steps: Vec<Step, A>,
+    formers: Formers,
 }
 
 impl<A: Allocator> Model for Note<A> {
-    ghost use Rattle.std.specs.Prelude.{List};
-    ghost use Rattle.tf_forest.specs.declared.change.Step.{Step};
+    ghost use Rattle.tf_forest.specs.Forest.{Noted};
 
-    ghost Value = { List Step };
+    ghost Value = { Noted };
 
-    ghost view = { λ n. n.steps.items };
+    ghost view = { λ n. record { steps = n.steps.items; formers = n.formers } };
 }
 
 impl<A: Allocator> Note<A> {
-    pub(crate) fn new(steps: Vec<Step, A>) -> Note<A>
-        ensures { result ≡ steps.items }
+    pub(crate) fn new(steps: Vec<Step, A>, formers: Formers) -> Note<A>
+        ensures { result ≡ record { steps = steps.items; formers = formers } }
     {
-        Note { steps }
+        Note { steps, formers }
     }
 
     /// Takes the entry back. It takes no memory.
-    fn take_back<S: RowSet>(self, rows: &mut S)
-        requires { CanStepAll S.has_row S.fits S.takes_any self (S.parts rows.old) }
-        ensures rows { S.parts rows.new ≡ all_stepped self (S.parts rows.old) }
+    fn take_back<S: RowSet>(self, rows: &mut S, resident: &mut Resident<A>)
+    where
+        A: Clone,
+        requires { CanStepAll S.has_row S.fits S.takes_any self.steps (S.parts rows.old) }
+        ensures rows { S.parts rows.new ≡ all_stepped self.steps (S.parts rows.old) }
         ensures sealed { S.sealed rows.new ≡ S.sealed rows.old }
+        ensures resident { (accounts : Accounts) → AreAmong accounts resident.old → AreAmong (accounts_before self.formers accounts) resident.new }
     {
+        resident.back(&self.formers);
         let mut steps = self.steps;
         take_steps(rows, &mut steps);
     }
 }
 
 /// Takes the newest entries back until so many notes are left. It takes no memory.
-pub(crate) fn undo_to<S: RowSet, A: Allocator>(
+pub(crate) fn undo_to<S: RowSet, A: Allocator + Clone>(
     rows: &mut S,
+    resident: &mut Resident<A>,
     notes: &mut Vec<Note<A>, A>,
     left: usize,
 )
     requires shows { ShowTheirJournal (S.parts rows.old) }
     requires right { AreRight S.has_row S.fits S.takes_any notes.old.items (S.parts rows.old) }
     requires left { left ≤ length notes.old.items }
+    requires resident { AreAmong (party_of (journal_in (S.parts rows.old))) resident.old }
     ensures shows { ShowTheirJournal (S.parts rows.new) }
     ensures right { AreRight S.has_row S.fits S.takes_any notes.new.items (S.parts rows.new) }
     ensures left { length notes.new.items ≡ left }
     ensures cut { IsCut (journal_in (S.parts rows.old)) (journal_in (S.parts rows.new)) (length notes.old.items - left) }
     ensures sealed { S.sealed rows.new ≡ S.sealed rows.old }
+    ensures resident { AreAmong (party_of (journal_in (S.parts rows.new))) resident.new }
 {
     while notes.len() > left {
         if let Some(note) = notes.pop() {
-            note.take_back(rows);
+            note.take_back(rows, resident);
         }
     }
 }

@@ -1,110 +1,146 @@
 //! Publishing a forest.
-ghost use Rattle.std.specs.Prelude.{◌≡◌, ◌≢◌, ◌+◌, ◌<◌, ◌≤◌, [], false, length, Err, OnErr, OnOk, IfErr, IsTrue};
+ghost use Rattle.std.specs.Prelude.{◌≡◌, ◌≢◌, ◌+◌, ◌<◌, ◌≤◌, ◌==◌, false, length, Err, OnErr, OnOk, IfOk, IfErr, IsTrue, if◌then◌else◌};
+ghost use Rattle.tf_forest.specs.Counts.{AreBounded, IsReady, Loses, settled};
 ghost use Rattle.tf_forest.specs.Parts.{parts_of, value_of_part};
-ghost use Rattle.tf_forest.specs.Publish.{tables_needed};
+ghost use Rattle.tf_forest.specs.Publish.{entries_waiting, tables_needed};
 ghost use Rattle.tf_forest.specs.Unpublished.{IsUnpublished};
 ghost use Rattle.tf_manifest.specs.View.{ShowsJournal, content_in};
 ghost use Rattle.tf_manifest.specs.declared.row.Row.{Row};
 ghost use Rattle.tf_table.specs.declared.key.Key.{Key};
 ghost use Rattle.tf_records.specs.declared.refusal.Refusal.{Refusal};
 
-use crate::publish::{publish_rows, tables_needed};
-use crate::{Forest, Rows, SealRows, rows_spell_the_journal_they_show};
+use crate::pushing::{push_rows, tables_needed};
+use crate::{
+    Counts, Forest, MutableRows, Prepared, Rows, SealRows, rows_spell_the_journal_they_show,
+};
 use std::alloc::Allocator;
 use std::sync::Wait;
-use tf_manifest::{Manifest, Naming};
+use tf_manifest::Naming;
 use tf_records::Refusal;
 
 /// Whether the tables that a publish pushes fit under the limit.
 fn has_room<'r, F: SealRows<A> + Drop, A: Allocator + Copy, N: Naming>(
     rows: &Rows<'r, F, A, N>,
 ) -> bool
-    ensures fits { IsTrue result → rows.now.manifest.pushed.count + tables_needed (F.entries rows.now.fresh) rows.now.manifest ≤ rows.now.manifest.pushed.limit }
-    ensures full { result ≡ false → rows.now.manifest.pushed.limit < rows.now.manifest.pushed.count + tables_needed (F.entries rows.now.fresh) rows.now.manifest }
+    ensures fits { IsTrue result → rows.now.published.tables.pushed.count + tables_needed (F.entries rows.now.fresh) rows.now.published.tables ≤ rows.now.published.tables.pushed.limit }
+    ensures full { result ≡ false → rows.now.published.tables.pushed.limit < rows.now.published.tables.pushed.count + tables_needed (F.entries rows.now.fresh) rows.now.published.tables }
 {
-    let manifest = &rows.manifest;
+    let manifest = rows.published.manifest();
     manifest.limit() - manifest.pushed() >= tables_needed(&rows.fresh, manifest)
 }
 
-/// Seals each mutable table that has an entry, puts it in front of its row's sealed tables, and takes its entries away.
+/// Seals each mutable table that has an entry, and puts it in front of its row's sealed tables in a copy of these. Where a
+/// row is full, its run that is to be merged next is merged in the copy first.
 ///
-/// The only refusal is `NoMemory`. It leaves all tables as they were, but that those that were pushed stay counted.
-fn publish_all<'r, R: Wait, F: SealRows<A> + Drop, A: Allocator + Copy, N: Naming>(
-    rt: &R,
-    fresh: &mut F,
-    manifest: &mut Manifest<'r, A, N>,
-    alloc: A,
-) -> Result<(), Refusal>
-    requires { manifest.old.pushed.count + tables_needed (F.entries fresh.old) manifest.old ≤ manifest.old.pushed.limit }
-    ensures content { OnOk result ((r : Row) (key : Key) → content_in manifest.new r key ≡ value_of_part (parts_of (F.entries fresh.old) manifest.old r) key) }
-    ensures none { OnOk result ((r : Row) → F.entries fresh.new r ≡ []) }
-    ensures count { OnOk result (manifest.new.pushed.count ≡ manifest.old.pushed.count + tables_needed (F.entries fresh.old) manifest.old) }
-    ensures fresh { OnErr result (F.entries fresh.new ≡ F.entries fresh.old) }
-    ensures tables { OnErr result (manifest.new ≡ record manifest.old { pushed = manifest.new.pushed }) }
-    ensures limit { manifest.new.pushed.limit ≡ manifest.old.pushed.limit }
-    ensures least { manifest.old.pushed.count ≤ manifest.new.pushed.count }
-    ensures most { manifest.new.pushed.count ≤ manifest.old.pushed.count + tables_needed (F.entries fresh.old) manifest.old }
-    ensures refusal { IfErr result (λ refusal. refusal ≡ Refusal.NoMemory) }
-{
-    let mut next = manifest.again();
-    match publish_rows(rt, fresh, alloc, &mut next) {
-        Ok(()) => {
-            manifest.copy_from(&next);
-            fresh.clear();
-            Ok(())
-        }
-        Err(refusal) => {
-            manifest.pushes = next.pushes;
-            Err(refusal)
-        }
-    }
-}
-
-/// Publishes the mutable tables of rows in front of their own sealed ones, as `publish_all` does.
-fn publish_tables<'r, R: Wait, F: SealRows<A> + Drop, A: Allocator + Copy, N: Naming>(
+/// The only refusal is `NoMemory`. Whatever it answers, the rows have what they had, and what was pushed is counted, all its
+/// entries as sealed and as held.
+fn prepare_rows<'r, R: Wait, F: SealRows<A> + Drop, A: Allocator + Copy, N: Naming>(
     rt: &R,
     rows: &mut Rows<'r, F, A, N>,
     alloc: A,
-) -> Result<(), Refusal>
-    requires { rows.old.manifest.pushed.count + tables_needed (F.entries rows.old.fresh) rows.old.manifest ≤ rows.old.manifest.pushed.limit }
-    ensures content { OnOk result ((r : Row) (key : Key) → content_in rows.new.manifest r key ≡ value_of_part (parts_of (F.entries rows.old.fresh) rows.old.manifest r) key) }
-    ensures none { OnOk result ((r : Row) → F.entries rows.new.fresh r ≡ []) }
-    ensures count { OnOk result (rows.new.manifest.pushed.count ≡ rows.old.manifest.pushed.count + tables_needed (F.entries rows.old.fresh) rows.old.manifest) }
-    ensures fresh { OnErr result (F.entries rows.new.fresh ≡ F.entries rows.old.fresh) }
-    ensures tables { OnErr result (rows.new.manifest ≡ record rows.old.manifest { pushed = rows.new.manifest.pushed }) }
-    ensures limit { rows.new.manifest.pushed.limit ≡ rows.old.manifest.pushed.limit }
-    ensures least { rows.old.manifest.pushed.count ≤ rows.new.manifest.pushed.count }
-    ensures most { rows.new.manifest.pushed.count ≤ rows.old.manifest.pushed.count + tables_needed (F.entries rows.old.fresh) rows.old.manifest }
+) -> Result<Prepared<'r, A, N>, Refusal>
+    requires { rows.old.published.tables.pushed.count + tables_needed (F.entries rows.old.fresh) rows.old.published.tables ≤ rows.old.published.tables.pushed.limit }
+    ensures content { IfOk result (λ p. (r : Row) (key : Key) → content_in p.tables r key ≡ value_of_part (parts_of (F.entries rows.old.fresh) rows.old.published.tables r) key) }
+    ensures count { IfOk result (λ p. p.tables.pushed.count ≡ rows.old.published.tables.pushed.count + tables_needed (F.entries rows.old.fresh) rows.old.published.tables) }
+    ensures sealed { IfOk result (λ p. p.sealed ≡ rows.old.published.counts.rows_sealed + entries_waiting (F.entries rows.old.fresh)) }
+    ensures ready { IfOk result (IsReady rows.new.published) }
+    ensures fresh { F.entries rows.new.fresh ≡ F.entries rows.old.fresh }
+    ensures loses { Loses rows.old.published rows.new.published (tables_needed (F.entries rows.old.fresh) rows.old.published.tables) }
     ensures refusal { IfErr result (λ refusal. refusal ≡ Refusal.NoMemory) }
 {
-    publish_all(rt, &mut rows.fresh, &mut rows.manifest, alloc)
+    // Only the count tells what it bounds.
+    let _publishes = rows.published.publishes();
+    let mut next = rows.published.copy();
+    let answer = push_rows(rt, &mut rows.fresh, alloc, &mut next);
+    rows.published.count_pushed(&next);
+    match answer {
+        Ok(()) => Ok(Prepared::new(next)),
+        Err(refusal) => Err(refusal),
+    }
 }
 
 impl<'r, F: SealRows<A> + Drop, A: Allocator + Copy, N: Naming> Forest<Rows<'r, F, A, N>, A> {
-    /// Seals each mutable table that has an entry and puts it in front of its row's sealed tables, so that these alone show
-    /// the journal. Where a row is full, its run that is to be merged next is merged first. All entries are kept.
+    /// The first half of a publish: seals each mutable table that has an entry and puts it in front of its row's sealed
+    /// tables in a copy of these, which alone shows the journal. Where a row is full, its run that is to be merged next is
+    /// merged first. All entries are kept.
     ///
     /// It copies each entry of the mutable tables once, and may wait in a push. `RegistryFull` is answered before anything
     /// else, exactly where the tables that are needed, one for each row with entries and one more for each of those that is
-    /// full, don't fit under the limit of pushes. Else the only refusal is `NoMemory`. A refusal leaves everything as it was,
-    /// but that tables that were pushed stay counted.
-    pub fn publish<R: Wait>(&mut self, rt: &R) -> Result<(), Refusal>
+    /// full, don't fit under the limit of pushes. Else the only refusal is `NoMemory`. Everything stays as it was, but that
+    /// tables that were pushed are counted, and their entries, until the copy is settled, both as sealed and as held.
+    pub fn prepare<R: Wait>(&mut self, rt: &R) -> Result<Prepared<'r, A, N>, Refusal>
         requires { self.old.kept ≡ length self.old.journal }
-        ensures journal { self.new.journal ≡ self.old.journal }
-        ensures clock_kept { self.new.clock ≡ self.old.clock }
-        ensures length_kept { self.new.kept ≡ self.old.kept }
-        ensures shows { OnOk result (ShowsJournal self.new.sealed self.new.journal) }
-        ensures all { OnOk result (self.new.needed ≡ 0) }
-        ensures counted { OnOk result (self.new.sealed.pushed.count ≡ self.old.sealed.pushed.count + self.old.needed) }
-        ensures fits { OnOk result (self.old.sealed.pushed.count + self.old.needed ≤ self.old.sealed.pushed.limit) }
-        ensures err { OnErr result (IsUnpublished self.old self.new) }
-        ensures full { result ≡ Err Refusal.RegistryFull → (self.new ≡ self.old) × (self.old.sealed.pushed.limit < self.old.sealed.pushed.count + self.old.needed) }
-        ensures refused { IfErr result (λ refusal. refusal ≢ Refusal.RegistryFull → (refusal ≡ Refusal.NoMemory) × (self.old.sealed.pushed.count + self.old.needed ≤ self.old.sealed.pushed.limit)) }
+        ensures shows { IfOk result (λ prepared. ShowsJournal prepared.tables self.new.journal) }
+        ensures counted { IfOk result (λ prepared. prepared.tables.pushed.count ≡ self.old.sealed.tables.pushed.count + self.old.needed) }
+        ensures sealed { IfOk result (λ prepared. prepared.sealed ≡ self.old.sealed.counts.rows_sealed + self.old.waiting) }
+        ensures ready { IfOk result (IsReady self.new.sealed) }
+        ensures fits { OnOk result (self.old.sealed.tables.pushed.count + self.old.needed ≤ self.old.sealed.tables.pushed.limit) }
+        ensures waits { IsUnpublished self.old self.new }
+        ensures full { result ≡ Err Refusal.RegistryFull → (self.new ≡ self.old) × (self.old.sealed.tables.pushed.limit < self.old.sealed.tables.pushed.count + self.old.needed) }
+        ensures refused { IfErr result (λ refusal. refusal ≢ Refusal.RegistryFull → (refusal ≡ Refusal.NoMemory) × (self.old.sealed.tables.pushed.count + self.old.needed ≤ self.old.sealed.tables.pushed.limit)) }
     {
         rows_spell_the_journal_they_show();
         if !has_room(&self.rows) {
             return Err(Refusal::RegistryFull);
         }
-        publish_tables(rt, &mut self.rows, self.alloc)
+        prepare_rows(rt, &mut self.rows, self.alloc)
+    }
+
+    /// The second half of a publish: puts the tables that `prepare` gave in place, and takes all entries of the mutable
+    /// tables away. It takes no memory.
+    ///
+    /// Nothing was added, published or installed since `prepare`: the tables show the journal, and all that was pushed was
+    /// pushed for them.
+    pub fn settle(&mut self, prepared: &Prepared<'r, A, N>)
+        requires kept { self.old.kept ≡ length self.old.journal }
+        requires shows { ShowsJournal prepared.now.tables self.old.journal }
+        requires ready { IsReady self.old.sealed prepared.now }
+        ensures { self.new ≡ record self.old { sealed = settled prepared.now self.old.sealed; needed = 0; waiting = 0 } }
+    {
+        rows_spell_the_journal_they_show();
+        self.rows.published.settle(prepared);
+        self.rows.fresh.clear();
+    }
+
+    /// Seals each mutable table that has an entry and puts it in front of its row's sealed tables, so that these alone show
+    /// the journal: `prepare` and `settle`, one after the other.
+    ///
+    /// Refusals are those of `prepare`. They leave everything as it was, but that tables that were pushed stay counted, and
+    /// their entries both as sealed and as held.
+    pub fn publish<R: Wait>(&mut self, rt: &R) -> Result<(), Refusal>
+        requires { self.old.kept ≡ length self.old.journal }
+        ensures journal { self.new.journal ≡ self.old.journal }
+        ensures clock_kept { self.new.clock ≡ self.old.clock }
+        ensures length_kept { self.new.kept ≡ self.old.kept }
+        ensures shows { OnOk result (ShowsJournal self.new.sealed.tables self.new.journal) }
+        ensures all { OnOk result ((self.new.needed ≡ 0) × (self.new.waiting ≡ 0)) }
+        ensures counted { OnOk result (self.new.sealed.tables.pushed.count ≡ self.old.sealed.tables.pushed.count + self.old.needed) }
+        ensures sealed { OnOk result (self.new.sealed.counts.rows_sealed ≡ self.old.sealed.counts.rows_sealed + self.old.waiting) }
+        ensures publishes { OnOk result (self.new.sealed.counts.publishes ≡ self.old.sealed.counts.publishes + (if self.old.needed == 0 then 0 else 1)) }
+        ensures fits { OnOk result (self.old.sealed.tables.pushed.count + self.old.needed ≤ self.old.sealed.tables.pushed.limit) }
+        ensures err { OnErr result (IsUnpublished self.old self.new) }
+        ensures full { result ≡ Err Refusal.RegistryFull → (self.new ≡ self.old) × (self.old.sealed.tables.pushed.limit < self.old.sealed.tables.pushed.count + self.old.needed) }
+        ensures refused { IfErr result (λ refusal. refusal ≢ Refusal.RegistryFull → (refusal ≡ Refusal.NoMemory) × (self.old.sealed.tables.pushed.count + self.old.needed ≤ self.old.sealed.tables.pushed.limit)) }
+    {
+        match self.prepare(rt) {
+            Ok(prepared) => {
+                self.settle(&prepared);
+                Ok(())
+            }
+            Err(refusal) => Err(refusal),
+        }
+    }
+}
+
+impl<'r, F: MutableRows + Drop, A: Allocator + Copy, N: Naming> Forest<Rows<'r, F, A, N>, A> {
+    /// How many entries were sealed, how many all pushed tables have, and how many publishes pushed a table: all 0 at first.
+    ///
+    /// All tables pushed and the references in all rows together are at most 42 times the publishes, what is held is at most
+    /// 21 times what was sealed, and no row has more than 64 references.
+    pub fn counts(&self) -> Counts
+        ensures value { result ≡ self.now.sealed.counts }
+        ensures bounded { AreBounded self.now.sealed }
+    {
+        self.rows.published.counts()
     }
 }

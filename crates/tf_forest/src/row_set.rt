@@ -4,7 +4,7 @@ ghost use Rattle.tf_table.specs.Content.{entry_at};
 ghost use Rattle.tf_table.specs.First.{IsFirstFrom};
 ghost use Rattle.tf_manifest.specs.declared.row.Row.{Row};
 ghost use Rattle.tf_manifest.specs.declared.value.Value.{Value};
-ghost use Rattle.tf_manifest.specs.View.{View};
+ghost use Rattle.tf_forest.specs.Counts.{Sealed};
 ghost use Rattle.tf_forest.specs.Parts.{IsPut, IsTakenBack, Parts, value_of_part};
 
 use crate::Before;
@@ -23,8 +23,8 @@ pub trait RowSet {
     /// What each row has.
     ghost parts: { Self → Parts };
 
-    /// The sealed tables, which no change of a mutable table touches.
-    ghost sealed: { Self → View };
+    /// The sealed tables and what was counted of them, which no change of a mutable table touches.
+    ghost sealed: { Self → Sealed };
 
     /// A row whose mutable table takes an entry for any key. Others take one for a key without an entry alone.
     ghost takes_any: { Row → Type 0 };

@@ -3,13 +3,13 @@ ghost use Rattle.std.specs.Prelude.{◌≡◌, ◌∷◌, refl};
 ghost use Rattle.tf_table.specs.Content.{entry_of};
 ghost use Rattle.tf_table.specs.First.{IsFirstAbove};
 ghost use Rattle.tf_manifest.specs.Registries.{AreShelves};
-ghost use Rattle.tf_manifest.specs.View.{no_tables};
+ghost use Rattle.tf_forest.specs.Counts.{nothing_sealed};
 ghost use Rattle.tf_forest.specs.Nest.{AreEmpty, IsTree, fits_row, has_each};
 ghost use Rattle.tf_forest.specs.Parts.{parts_of, sealed_in};
 
-use crate::{AllRows, Before, EmptyRows, MutableRows, RowSet};
+use crate::{AllRows, Before, EmptyRows, MutableRows, Published, RowSet};
 use std::alloc::Allocator;
-use tf_manifest::{Manifest, Naming, Registries, Row, Value};
+use tf_manifest::{Naming, Registries, Row, Value};
 use tf_records::Refusal;
 use tf_table::Key;
 
@@ -17,32 +17,32 @@ use tf_table::Key;
 #[derive(Drop)]
 pub struct Rows<'r, F: MutableRows + Drop, A: Allocator, N: Naming> {
     pub fresh: F,
-    pub manifest: Manifest<'r, A, N>,
+    pub published: Published<'r, A, N>,
 }
 
 impl<'r, F: MutableRows + Drop, A: Allocator, N: Naming> Rows<'r, F, A, N> {
-    /// Mutable tables without entries, which grow on `alloc`, and no sealed ones. It takes no memory.
+    /// Mutable tables without entries, which grow on `alloc`, and no sealed ones, with nothing counted. It takes no memory.
     pub fn new(alloc: A, registries: &'r Registries<A>) -> Rows<'r, F, A, N>
     where
         F: EmptyRows<A>,
         requires { AreShelves N.shelf registries.now }
-        ensures empty { AreEmpty (parts_of (F.entries result.fresh) result.manifest) }
-        ensures sealed { result.manifest ≡ no_tables registries.now.limit }
+        ensures empty { AreEmpty (parts_of (F.entries result.fresh) result.published.tables) }
+        ensures sealed { result.published ≡ nothing_sealed registries.now.limit }
     {
         Rows {
             fresh: F::empty(alloc),
-            manifest: Manifest::new(registries),
+            published: Published::new(registries),
         }
     }
 
     /// The first key of a row above a given one that has an entry, a value or a tombstone, in the mutable table or a
     /// sealed one.
     fn first_above(&self, row: Row, key: &Key) -> Option<Key>
-        ensures { IsFirstAbove key.now (λ found. entry_of found (F.entries self.now.fresh row ∷ sealed_in self.now.manifest row)) result }
+        ensures { IsFirstAbove key.now (λ found. entry_of found (F.entries self.now.fresh row ∷ sealed_in self.now.published.tables row)) result }
     {
         Key::lesser(
             self.fresh.first_above(row, key),
-            self.manifest.first_above(row, key),
+            self.published.manifest().first_above(row, key),
         )
     }
 }
@@ -52,9 +52,9 @@ impl<'r, F: MutableRows + Drop, A: Allocator, N: Naming> RowSet for Rows<'r, F, 
 
     ghost fits = { fits_row };
 
-    ghost parts = { λ rows. parts_of (F.entries rows.fresh) rows.manifest };
+    ghost parts = { λ rows. parts_of (F.entries rows.fresh) rows.published.tables };
 
-    ghost sealed = { λ rows. rows.manifest };
+    ghost sealed = { λ rows. rows.published };
 
     ghost takes_any = { IsTree };
 
@@ -65,7 +65,7 @@ impl<'r, F: MutableRows + Drop, A: Allocator, N: Naming> RowSet for Rows<'r, F, 
     fn find(&self, row: Row, key: &Key) -> Option<Value> {
         match self.fresh.entry(row, key) {
             Some(entry) => entry,
-            None => self.manifest.find(row, key),
+            None => self.published.manifest().find(row, key),
         }
     }
 

@@ -1,6 +1,6 @@
 //! A row's mutable table, sealed, and put in front of the sealed tables of its row.
 ghost use Rattle.std.specs.Prelude.{◌≡◌, ◌<◌, ◌≤◌, [], length, slice_index_or, IfErr, OnErr, OnOk};
-ghost use Rattle.tf_forest.specs.SealedRow.{AddsAt, PushesIn, kind_of_sealed};
+ghost use Rattle.tf_forest.specs.SealedRow.{AddsAt, PushesIn, entries_of_sealed, kind_of_sealed};
 ghost use Rattle.tf_manifest.specs.Limit.{one_more};
 ghost use Rattle.tf_manifest.specs.Row.{weight};
 ghost use Rattle.tf_manifest.specs.View.{tables_by};
@@ -25,6 +25,24 @@ pub enum SealedRow<A: Allocator> {
     State(Sealed<State, A>),
     Sums(Sealed<Stored<Sums>, A>),
     Status(Sealed<Stored<Status>, A>),
+}
+
+impl<A: Allocator> SealedRow<A> {
+    /// How many entries it has.
+    pub(crate) fn entries(&self) -> usize
+        ensures { result ≡ length (entries_of_sealed self.now) }
+    {
+        match self {
+            SealedRow::Stamp(_, table) => table.len(),
+            SealedRow::Account(table) => table.len(),
+            SealedRow::Transfer(table) => table.len(),
+            SealedRow::Id(table) => table.len(),
+            SealedRow::Unit(_, table) => table.len(),
+            SealedRow::State(table) => table.len(),
+            SealedRow::Sums(table) => table.len(),
+            SealedRow::Status(table) => table.len(),
+        }
+    }
 }
 
 /// Pushes a sealed table, counts it, and puts it in front of the tables of the row at a place. It may wait in the push.

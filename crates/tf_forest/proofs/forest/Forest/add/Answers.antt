@@ -3,14 +3,13 @@ use Rattle.tf_journal.specs.declared.entry.Entry.{Entry}
 use Rattle.tf_journal.specs.Ledger.{CanGrow}
 use Rattle.tf_forest.specs.Parts.{Parts, fresh_in}
 use Rattle.tf_forest.specs.declared.found.Found.{Found}
-use Rattle.tf_forest.specs.declared.change.Step.{Step}
 use Rattle.tf_forest.specs.Changes.{CanChangeAll, all_changed}
 use Rattle.tf_forest.specs.Edits.{found_for}
-use Rattle.tf_forest.specs.Forest.{IsForest, View, journal_in}
+use Rattle.tf_forest.specs.Forest.{IsForest, Noted, View, journal_in}
 use Rattle.tf_forest.specs.Nest.{LogsHaveValues}
-use Rattle.tf_forest.specs.Publish.{tables_needed}
+use Rattle.tf_forest.specs.Publish.{entries_waiting, tables_needed}
 use Rattle.tf_forest.specs.Range.{LeavesInRange}
-use Rattle.tf_manifest.specs.View.{View as Tables}
+use Rattle.tf_forest.specs.Counts.{Sealed}
 use Rattle.tf_forest.proofs.CanChange.{can_any}
 use Rattle.tf_forest.specs.Next.{changes, changes_by}
 use Rattle.tf_forest.proofs.Notes.{IsGrown, grown_forest, grown_journal}
@@ -36,19 +35,22 @@ invariant_of-self-2 g c =
     let same : journal_in old ≡ c.args.self.now.journal = ap (λ (v : View). v.journal) c.self.view_is in
     let grows : CanGrow (journal_in old) e = subst (λ (j : List Entry). CanGrow j e) (sym same) c.requires in
     let is : c.look_up-found.result ≡ found_for (journal_in old) e = c.look_up-found.ensures.found (journal_in old) c.self.invariant.shows.sound c.self.invariant.shows.shows in
-    let grown : IsGrown g.S.RowSet.has_row g.S.RowSet.fits g.S.RowSet.takes_any old new e c.in-Ok.steps.items = record {
+    let note : Noted = record { steps = c.in-Ok.steps.items; formers = c.formers_of.result } in
+    let grown : IsGrown g.S.RowSet.has_row g.S.RowSet.fits g.S.RowSet.takes_any old new e note = record {
       shows = c.in-Ok.ensures.shows (journal_in old) c.self.invariant.shows.sound grows is c.self.invariant.shows.shows;
       values = subst LogsHaveValues (sym (c.in-Ok.ensures.rows ∙ ap (λ (f : Found). all_changed (changes_by f e) old) is)) (c.next_entry_can_be_added.ensures.values old (journal_in old) e c.self.invariant.shows.values);
       can = c.in-Ok.ensures.steps;
       back = c.in-Ok.ensures.back;
+      accounts = c.formers_of.ensures.back (journal_in old) c.self.invariant.shows.sound grows is;
     } in
-    let noted : c.note_down.new.notes.items ≡ c.self.inside.notes.items ++ c.in-Ok.steps.items ∷ [] =
+    let noted : c.note_down.new.notes.items ≡ c.self.inside.notes.items ++ note ∷ [] =
     c.note_down.ensures
-    ∙ ap (λ (ns : List (List Step)). ns ++ c.new.result ∷ []) c.make_room.ensures.items
-    ∙ ap (λ (n : List Step). c.self.inside.notes.items ++ n ∷ []) c.new.ensures in
-    subst (λ (ns : List (List Step)). IsForest g.S.RowSet.has_row g.S.RowSet.fits g.S.RowSet.takes_any new ns c.self.inside.kept c.after-self-inside.result) (sym noted)
-    (grown_forest g.S.RowSet.has_row g.S.RowSet.fits g.S.RowSet.takes_any c.rows_spell_the_journal_they_show.ensures old new c.self.inside.notes.items c.in-Ok.steps.items c.self.inside.kept c.self.inside.floors e c.self.invariant grows grown
-    c.after-self-inside.result (c.after-self-inside.ensures.holds (journal_in old) c.self.inside.kept c.self.invariant.shows.sound grows is c.self.invariant.floors))
+    ∙ ap (λ (ns : List Noted). ns ++ c.new.result ∷ []) c.make_room.ensures.items
+    ∙ ap (λ (n : Noted). c.self.inside.notes.items ++ n ∷ []) c.new.ensures in
+    subst (λ (ns : List Noted). IsForest g.S.RowSet.has_row g.S.RowSet.fits g.S.RowSet.takes_any new ns c.self.inside.kept c.after-self-inside.result c.after.new.self) (sym noted)
+    (grown_forest g.S.RowSet.has_row g.S.RowSet.fits g.S.RowSet.takes_any c.rows_spell_the_journal_they_show.ensures old new c.self.inside.notes.items note c.self.inside.kept c.self.inside.floors c.self.inside.resident e c.self.invariant grows grown
+    c.after-self-inside.result c.after.new.self (c.after-self-inside.ensures.holds (journal_in old) c.self.inside.kept c.self.invariant.shows.sound grows is c.self.invariant.floors)
+    (c.after.ensures (journal_in old) c.self.invariant.shows.sound grows is c.self.invariant.resident))
 
 pub returns-clause-addition : goal.returns-clause-addition
 returns-clause-addition g c =
@@ -58,14 +60,16 @@ returns-clause-addition g c =
     let same : journal_in old ≡ c.args.self.now.journal = ap (λ (v : View). v.journal) c.self.view_is in
     let grows : CanGrow (journal_in old) e = subst (λ (j : List Entry). CanGrow j e) (sym same) c.requires in
     let is : c.look_up-found.result ≡ found_for (journal_in old) e = c.look_up-found.ensures.found (journal_in old) c.self.invariant.shows.sound c.self.invariant.shows.shows in
-    let grown : IsGrown g.S.RowSet.has_row g.S.RowSet.fits g.S.RowSet.takes_any old new e c.in-Ok.steps.items = record {
+    let note : Noted = record { steps = c.in-Ok.steps.items; formers = c.formers_of.result } in
+    let grown : IsGrown g.S.RowSet.has_row g.S.RowSet.fits g.S.RowSet.takes_any old new e note = record {
       shows = c.in-Ok.ensures.shows (journal_in old) c.self.invariant.shows.sound grows is c.self.invariant.shows.shows;
       values = subst LogsHaveValues (sym (c.in-Ok.ensures.rows ∙ ap (λ (f : Found). all_changed (changes_by f e) old) is)) (c.next_entry_can_be_added.ensures.values old (journal_in old) e c.self.invariant.shows.values);
       can = c.in-Ok.ensures.steps;
       back = c.in-Ok.ensures.back;
+      accounts = c.formers_of.ensures.back (journal_in old) c.self.invariant.shows.sound grows is;
     } in
     record {
-      ok = grown_journal g.S.RowSet.has_row g.S.RowSet.fits g.S.RowSet.takes_any c.rows_spell_the_journal_they_show.ensures old new c.self.inside.notes.items c.in-Ok.steps.items c.self.inside.kept c.self.inside.floors e c.self.invariant grows grown
+      ok = grown_journal g.S.RowSet.has_row g.S.RowSet.fits g.S.RowSet.takes_any c.rows_spell_the_journal_they_show.ensures old new c.self.inside.notes.items note c.self.inside.kept c.self.inside.floors c.self.inside.resident e c.self.invariant grows grown
           ∙ ap (λ (j : List Entry). j ++ e ∷ []) same;
       err = tt;
       refusal = tt;
@@ -93,7 +97,20 @@ returns-in-Err-clause-addition g c = record {
 
 pub returns-in-Err-clause-err : goal.returns-in-Err-clause-err
 returns-in-Err-clause-err g c =
-    let seen : Parts → Tables → View = λ rows tables. record { journal = journal_in rows; sealed = tables; needed = tables_needed (fresh_in rows) tables; clock = c.self.inside.clock; kept = c.self.inside.kept } in
+    let seen : Parts → Sealed → View = λ rows sealed. record { journal = journal_in rows; sealed = sealed; needed = tables_needed (fresh_in rows) sealed.tables; waiting = entries_waiting (fresh_in rows); clock = c.self.inside.clock; kept = c.self.inside.kept } in
     ap (λ (rows : Parts). seen rows (g.S.RowSet.sealed c.add_entry.new.rows)) c.in-Err.ensures.err
-    ∙ ap (λ (tables : Tables). seen (g.S.RowSet.parts c.self.inside.rows) tables) c.in-Err.ensures.sealed
+    ∙ ap (λ (sealed : Sealed). seen (g.S.RowSet.parts c.self.inside.rows) sealed) c.in-Err.ensures.sealed
     ∙ c.self.view_is
+
+pub after-requires : goal.after-requires
+after-requires g c =
+    let old : Parts = g.S.RowSet.parts c.self.inside.rows in
+    let e : Entry = c.args.entry.now in
+    let same : journal_in old ≡ c.args.self.now.journal = ap (λ (v : View). v.journal) c.self.view_is in
+    let grows : CanGrow (journal_in old) e = subst (λ (j : List Entry). CanGrow j e) (sym same) c.requires in
+    let is : c.look_up-found.result ≡ found_for (journal_in old) e = c.look_up-found.ensures.found (journal_in old) c.self.invariant.shows.sound c.self.invariant.shows.shows in
+    subst (λ (f : Found). LeavesInRange f e) (sym is) (c.entries_leave_sums_in_range.ensures (journal_in old) e c.self.invariant.shows.sound grows)
+
+pub look_up-found-requires-clause-held : goal.look_up-found-requires-clause-held
+look_up-found-requires-clause-held g c = λ id party there.
+    c.rows_answer_look_ups.ensures.parties _ _ c.self.invariant.shows.sound c.self.invariant.shows.shows id ∙ c.self.invariant.resident id party there

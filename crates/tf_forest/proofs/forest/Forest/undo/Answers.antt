@@ -24,4 +24,5 @@ invariant_of-self g c =
       right = c.undo_to.ensures.right;
       count = omega arith;
       floors = subst (λ (journal : List Entry). HaveFloors c.back-self-inside.result journal kept) taken (c.back-self-inside.ensures.holds old kept n (omega arith) c.self.invariant.floors);
+      resident = c.undo_to.ensures.resident;
     }

@@ -15,23 +15,23 @@ something : {X : Type 0} (o : Option X) (b : Bool) → is_some o ≡ not b → b
 something o b is some = is ∙ ap not some
 
 pub loop-row-init : goal.loop-row-init
-loop-row-init g c = starts (g.F.MutableRows.entries c.args.self.now.fresh c.args.row ∷ sealed_in c.args.self.now.manifest c.args.row) c.args.key.now
+loop-row-init g c = starts (g.F.MutableRows.entries c.args.self.now.fresh c.args.row ∷ sealed_in c.args.self.now.published.tables c.args.row) c.args.key.now
 
 pub loop-row-preserved : goal.loop-row-preserved
 loop-row-preserved g c =
-    comes_further (g.F.MutableRows.entries c.args.self.now.fresh c.args.row ∷ sealed_in c.args.self.now.manifest c.args.row) c.args.key.now c.loop-row.place c.in_ok-place.place c.loop-row.invariant
+    comes_further (g.F.MutableRows.entries c.args.self.now.fresh c.args.row ∷ sealed_in c.args.self.now.published.tables c.args.row) c.args.key.now c.loop-row.place c.in_ok-place.place c.loop-row.invariant
     (sym c.find.ensures ∙ nothing c.find.result c.is_none.result c.is_none.ensures c.loop-row-test.true) c.in_ok-place.ensures
 
 pub loop-row-smaller : goal.loop-row-smaller
 loop-row-smaller g c =
-    keys_above-fewer (g.F.MutableRows.entries c.args.self.now.fresh c.args.row ∷ sealed_in c.args.self.now.manifest c.args.row) c.loop-row.place c.in_ok-place.place c.in_ok-place.ensures
+    keys_above-fewer (g.F.MutableRows.entries c.args.self.now.fresh c.args.row ∷ sealed_in c.args.self.now.published.tables c.args.row) c.loop-row.place c.in_ok-place.place c.in_ok-place.ensures
 
 pub returns-in_err-place : goal.returns-in_err-place
 returns-in_err-place g c =
-    comes_to_end (g.F.MutableRows.entries c.args.self.now.fresh c.args.row ∷ sealed_in c.args.self.now.manifest c.args.row) c.args.key.now c.loop-row.place c.from_residual.result c.loop-row.invariant
+    comes_to_end (g.F.MutableRows.entries c.args.self.now.fresh c.args.row ∷ sealed_in c.args.self.now.published.tables c.args.row) c.args.key.now c.loop-row.place c.from_residual.result c.loop-row.invariant
     (sym c.find.ensures ∙ nothing c.find.result c.is_none.result c.is_none.ensures c.loop-row-test.true) c.in_err-place.ensures c.from_residual.ensures
 
 pub returns : goal.returns
 returns g c =
-    comes_to_value (g.F.MutableRows.entries c.args.self.now.fresh c.args.row ∷ sealed_in c.args.self.now.manifest c.args.row) c.args.key.now c.loop-row.place c.loop-row.invariant
+    comes_to_value (g.F.MutableRows.entries c.args.self.now.fresh c.args.row ∷ sealed_in c.args.self.now.published.tables c.args.row) c.args.key.now c.loop-row.place c.loop-row.invariant
     (subst (λ (o : Option Value). IsSome o) c.find.ensures (something c.find.result c.is_none.result c.is_none.ensures c.loop-row-test.false))

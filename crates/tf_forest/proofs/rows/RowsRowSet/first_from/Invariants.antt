@@ -4,7 +4,7 @@ use Rattle.tf_forest.specs.Parts.{sealed_in}
 use Rattle.tf_forest.proofs.rows.RowsRowSet.first_from.Given as goal
 
 abbrev pub invariant-loop-row : goal.invariant-loop-row
-invariant-loop-row g l = HasComeTo (g.F.MutableRows.entries l.self.fresh l.row ∷ sealed_in l.self.manifest l.row) l.key l.place
+invariant-loop-row g l = HasComeTo (g.F.MutableRows.entries l.self.fresh l.row ∷ sealed_in l.self.published.tables l.row) l.key l.place
 
 abbrev pub decreases-loop-row : goal.decreases-loop-row
-decreases-loop-row g l = keys_above (g.F.MutableRows.entries l.self.fresh l.row ∷ sealed_in l.self.manifest l.row) l.place
+decreases-loop-row g l = keys_above (g.F.MutableRows.entries l.self.fresh l.row ∷ sealed_in l.self.published.tables l.row) l.place

@@ -12,9 +12,9 @@ if_ok (Err e) P Q f h = tt
 pub returns-clause-put : goal.returns-clause-put
 returns-clause-put g c =
     if_ok c.put.result _ _
-    (λ before puts. put_in_front c.args.self.now.manifest c.args.row c.args.key c.args.entry before (g.F.MutableRows.entries c.args.self.now.fresh) (g.F.MutableRows.entries c.put.new.self) puts)
+    (λ before puts. put_in_front c.args.self.now.published.tables c.args.row c.args.key c.args.entry before (g.F.MutableRows.entries c.args.self.now.fresh) (g.F.MutableRows.entries c.put.new.self) puts)
     c.put.ensures.put
 
 pub returns-clause-err : goal.returns-clause-err
 returns-clause-err g c =
-    on_err c.put.result _ _ (λ same. ap (λ (fresh : Entries). parts_of fresh c.args.self.now.manifest) same) c.put.ensures.err
+    on_err c.put.result _ _ (λ same. ap (λ (fresh : Entries). parts_of fresh c.args.self.now.published.tables) same) c.put.ensures.err

@@ -1,13 +1,14 @@
-//! Mutable tables that are published: sealed, and put in front of the sealed tables of their rows.
-ghost use Rattle.std.specs.Prelude.{◌≡◌, ◌+◌, ◌<◌, ◌≤◌, IfErr, OnErr, OnOk};
+//! Mutable tables pushed row by row: sealed, and put in front of the sealed tables of their rows.
+ghost use Rattle.std.specs.Prelude.{◌≡◌, ◌+◌, ◌<◌, ◌≤◌, length, IfErr, OnErr, OnOk};
+ghost use Rattle.tf_forest.specs.Counts.{PushesMore, all_references};
 ghost use Rattle.tf_forest.specs.Parts.{parts_of, place_of, value_of_part};
-ghost use Rattle.tf_forest.specs.Publish.{MakesRoom, PublishesRow, needed_for, tables_needed};
+ghost use Rattle.tf_forest.specs.Publish.{MakesRoom, PublishesRow, entries_waiting, needed_for, tables_needed};
 ghost use Rattle.tf_manifest.specs.View.{content_in, references_in};
 ghost use Rattle.tf_manifest.specs.declared.row.Row.{Row};
 ghost use Rattle.tf_table.specs.declared.key.Key.{Key};
 
 use crate::SealRows;
-use crate::sealed_row::push_in_front;
+use crate::counted::CountedTables;
 use std::alloc::Allocator;
 use std::sync::Wait;
 use tf_manifest::{Manifest, Naming, Row, Uninstalled};
@@ -20,18 +21,21 @@ fn make_room<'r, R: Wait, A: Allocator + Copy, N: Naming>(
     rt: &R,
     row: Row,
     alloc: A,
-    next: &mut Manifest<'r, A, N>,
+    next: &mut CountedTables<'r, A, N>,
 ) -> Result<(), Refusal>
-    requires { references_in next.old row ≡ 64 → next.old.pushed.count < next.old.pushed.limit }
-    ensures room { OnOk result (MakesRoom row next.old next.new) }
-    ensures few { OnOk result (references_in next.new row < 64) }
+    requires { references_in next.old.tables row ≡ 64 → next.old.tables.pushed.count < next.old.tables.pushed.limit }
+    ensures room { OnOk result (MakesRoom row next.old.tables next.new.tables) }
+    ensures few { OnOk result (references_in next.new.tables row < 64) }
+    ensures sealed { next.new.sealed ≡ next.old.sealed }
+    ensures more { PushesMore next.old next.new }
     ensures err { OnErr result (next.new ≡ next.old) }
     ensures refusal { IfErr result (λ refusal. refusal ≡ Refusal.NoMemory) }
 {
-    if next.references(row) < 64 {
+    let manifest = next.manifest();
+    if manifest.references(row) < 64 {
         return Ok(());
     }
-    let Some(job) = next.pick(row) else {
+    let Some(job) = manifest.pick(row) else {
         unreachable!()
     };
     let merged = match job.merge(alloc) {
@@ -48,20 +52,20 @@ fn make_room<'r, R: Wait, A: Allocator + Copy, N: Naming>(
 
 /// Seals a row's mutable table, if it has an entry, and puts it in front of the row's sealed tables.
 ///
-/// The only refusal is `NoMemory`. It leaves what rows have, and may have counted the push that made room.
-fn publish_row<'r, R: Wait, F: SealRows<A>, A: Allocator + Copy, N: Naming>(
+/// The only refusal is `NoMemory`. The push that made room may have been made by then.
+fn push_row<'r, R: Wait, F: SealRows<A>, A: Allocator + Copy, N: Naming>(
     rt: &R,
     fresh: &mut F,
     row: Row,
     alloc: A,
-    next: &mut Manifest<'r, A, N>,
+    next: &mut CountedTables<'r, A, N>,
 ) -> Result<(), Refusal>
-    requires { next.old.pushed.count + needed_for (F.entries fresh.old row) (references_in next.old row) ≤ next.old.pushed.limit }
-    ensures publishes { OnOk result (PublishesRow (F.entries fresh.old) row next.old next.new) }
+    requires { next.old.tables.pushed.count + needed_for (F.entries fresh.old row) (references_in next.old.tables row) ≤ next.old.tables.pushed.limit }
+    ensures publishes { OnOk result (PublishesRow (F.entries fresh.old) row next.old.tables next.new.tables) }
+    ensures sealed { OnOk result (next.new.sealed ≡ next.old.sealed + length (F.entries fresh.old row)) }
     ensures fresh { F.entries fresh.new ≡ F.entries fresh.old }
-    ensures least { next.old.pushed.count ≤ next.new.pushed.count }
-    ensures most { next.new.pushed.count ≤ next.old.pushed.count + needed_for (F.entries fresh.old row) (references_in next.old row) }
-    ensures limit { next.new.pushed.limit ≡ next.old.pushed.limit }
+    ensures more { PushesMore next.old next.new }
+    ensures most { next.new.tables.pushed.count ≤ next.old.tables.pushed.count + needed_for (F.entries fresh.old row) (references_in next.old.tables row) }
     ensures refusal { IfErr result (λ refusal. refusal ≡ Refusal.NoMemory) }
 {
     if fresh.has_none(row) {
@@ -72,7 +76,7 @@ fn publish_row<'r, R: Wait, F: SealRows<A>, A: Allocator + Copy, N: Naming>(
         Err(refusal) => return Err(refusal),
     };
     match make_room(rt, row, alloc, next) {
-        Ok(()) => push_in_front(rt, next, sealed),
+        Ok(()) => next.push_in_front(rt, sealed),
         Err(refusal) => Err(refusal),
     }
 }
@@ -120,24 +124,26 @@ pub(crate) fn tables_needed<'r, F: SealRows<A>, A: Allocator + Copy, N: Naming>(
 /// Seals each mutable table that has an entry, row by row, and puts it in front of its row's sealed tables.
 ///
 /// The only refusal is `NoMemory`. The mutable tables keep their entries.
-pub(crate) fn publish_rows<'r, R: Wait, F: SealRows<A>, A: Allocator + Copy, N: Naming>(
+pub(crate) fn push_rows<'r, R: Wait, F: SealRows<A>, A: Allocator + Copy, N: Naming>(
     rt: &R,
     fresh: &mut F,
     alloc: A,
-    next: &mut Manifest<'r, A, N>,
+    next: &mut CountedTables<'r, A, N>,
 ) -> Result<(), Refusal>
-    requires { next.old.pushed.count + tables_needed (F.entries fresh.old) next.old ≤ next.old.pushed.limit }
-    ensures content { OnOk result ((r : Row) (key : Key) → content_in next.new r key ≡ value_of_part (parts_of (F.entries fresh.old) next.old r) key) }
-    ensures count { OnOk result (next.new.pushed.count ≡ next.old.pushed.count + tables_needed (F.entries fresh.old) next.old) }
+    requires { next.old.tables.pushed.count + tables_needed (F.entries fresh.old) next.old.tables ≤ next.old.tables.pushed.limit }
+    ensures content { OnOk result ((r : Row) (key : Key) → content_in next.new.tables r key ≡ value_of_part (parts_of (F.entries fresh.old) next.old.tables r) key) }
+    ensures count { OnOk result (next.new.tables.pushed.count ≡ next.old.tables.pushed.count + tables_needed (F.entries fresh.old) next.old.tables) }
+    ensures sealed { OnOk result (next.new.sealed ≡ next.old.sealed + entries_waiting (F.entries fresh.old)) }
+    ensures few { OnOk result (next.new.tables.pushed.count + all_references next.new.tables ≤ next.old.tables.pushed.count + all_references next.old.tables + 42) }
+    ensures added { OnOk result (all_references next.new.tables + next.old.tables.pushed.count ≤ all_references next.old.tables + next.new.tables.pushed.count) }
     ensures fresh { F.entries fresh.new ≡ F.entries fresh.old }
-    ensures least { next.old.pushed.count ≤ next.new.pushed.count }
-    ensures most { next.new.pushed.count ≤ next.old.pushed.count + tables_needed (F.entries fresh.old) next.old }
-    ensures limit { next.new.pushed.limit ≡ next.old.pushed.limit }
+    ensures more { PushesMore next.old next.new }
+    ensures most { next.new.tables.pushed.count ≤ next.old.tables.pushed.count + tables_needed (F.entries fresh.old) next.old.tables }
     ensures refusal { IfErr result (λ refusal. refusal ≡ Refusal.NoMemory) }
 {
     for number in 0..Row::ALL.len() {
         let row = row_at(number);
-        if let Err(refusal) = publish_row(rt, fresh, row, alloc, next) {
+        if let Err(refusal) = push_row(rt, fresh, row, alloc, next) {
             return Err(refusal);
         }
     }

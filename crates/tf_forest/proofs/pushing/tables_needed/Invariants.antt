@@ -1,7 +1,7 @@
 use Rattle.std.proofs.Common.{◌≡◌, ◌+◌, ◌*◌, ◌≤◌, drop}
 use Rattle.tf_manifest.specs.RowNames.{rows_in_order}
 use Rattle.tf_forest.specs.Publish.{needed_by, tables_needed}
-use Rattle.tf_forest.proofs.publish.tables_needed.Given as goal
+use Rattle.tf_forest.proofs.pushing.tables_needed.Given as goal
 
 abbrev pub invariant-loop-number : goal.invariant-loop-number
 invariant-loop-number g l = record {

@@ -1,7 +1,7 @@
 use Rattle.std.proofs.Common.{ap, arith}
 use Rattle.tf_forest.proofs.PublishRows.{rows_from}
 use Rattle.tf_forest.specs.Publish.{needed_by}
-use Rattle.tf_forest.proofs.publish.tables_needed.Goals as goal
+use Rattle.tf_forest.proofs.pushing.tables_needed.Goals as goal
 
 pub loop-number-preserved : goal.loop-number-preserved
 loop-number-preserved g c =

@@ -1,0 +1,61 @@
+use Rattle.std.proofs.Common.{◌≡◌, ◌+◌, List, length, refl, sym, ◌∙◌, ap, subst, Result, Ok, Err, IfOk}
+use Rattle.tf_journal.specs.declared.entry.Entry.{Entry}
+use Rattle.tf_forest.specs.Counts.{Counted, Sealed}
+use Rattle.tf_forest.specs.Forest.{View, journal_in}
+use Rattle.tf_forest.specs.Nest.{IsTree, fits_row, has_each}
+use Rattle.tf_forest.specs.Parts.{Entries, parts_of}
+use Rattle.tf_forest.specs.Publish.{tables_needed}
+use Rattle.tf_manifest.specs.View.{ShowsJournal}
+use Rattle.tf_forest.proofs.Notes.{same_forest, same_journal}
+use Rattle.tf_forest.proofs.Refused.{logs_stay, nothing_lost, unpublished, values_stay}
+use Rattle.tf_forest.proofs.publishing.Forest+Rows+F+A+N+A.prepare.Goals as goal
+
+if_ok : {X : Type 0} {E : Type 0} (result : Result X E) (P Q : X → Type 0) → ((x : X) → P x → Q x) → IfOk result P → IfOk result Q
+if_ok (Ok x) P Q f is = f x is
+if_ok (Err refusal) P Q f is = tt
+
+pub returns-then-not-has_room-clause-waits : goal.returns-then-not-has_room-clause-waits
+returns-then-not-has_room-clause-waits g c = record { is = refl; loses = nothing_lost c.args.self.now.sealed c.args.self.now.needed }
+
+pub invariant_of-self : goal.invariant_of-self
+invariant_of-self g c =
+    let before : Entries = g.F.MutableRows.entries c.self.inside.rows.fresh in
+    let after : Entries = g.F.MutableRows.entries c.prepare_rows.new.rows.fresh in
+    let old : Sealed = c.self.inside.rows.published in
+    let new : Sealed = c.prepare_rows.new.rows.published in
+    let all : c.self.inside.kept ≡ length (journal_in (parts_of before old.tables)) =
+    ap (λ (v : View). v.kept) c.self.view_is ∙ c.requires ∙ ap (λ (v : View). length v.journal) (sym c.self.view_is) in
+    same_forest has_each fits_row IsTree c.rows_spell_the_journal_they_show.ensures (parts_of before old.tables) (parts_of after new.tables) c.self.inside.notes.items c.self.inside.kept c.self.inside.floors c.self.inside.resident
+    (values_stay before after old new (tables_needed before old.tables) c.prepare_rows.ensures.fresh c.prepare_rows.ensures.loses)
+    (logs_stay before after old new (tables_needed before old.tables) c.prepare_rows.ensures.fresh c.prepare_rows.ensures.loses c.self.invariant.shows.values) c.self.invariant all
+
+pub returns-clause-shows : goal.returns-clause-shows
+returns-clause-shows g c =
+    let before : Entries = g.F.MutableRows.entries c.self.inside.rows.fresh in
+    let after : Entries = g.F.MutableRows.entries c.prepare_rows.new.rows.fresh in
+    let old : Sealed = c.self.inside.rows.published in
+    let new : Sealed = c.prepare_rows.new.rows.published in
+    let journal = same_journal c.rows_spell_the_journal_they_show.ensures (parts_of before old.tables) (parts_of after new.tables)
+    (values_stay before after old new (tables_needed before old.tables) c.prepare_rows.ensures.fresh c.prepare_rows.ensures.loses) c.self.invariant.shows in
+    if_ok c.prepare_rows.result _ _
+    (λ (p : Counted) content. subst (λ (j : List Entry). ShowsJournal p.tables j) (sym journal) (λ r key. content r key ∙ c.self.invariant.shows.shows r key))
+    c.prepare_rows.ensures.content
+
+pub returns-clause-counted : goal.returns-clause-counted
+returns-clause-counted g c =
+    subst (λ (v : View). IfOk c.prepare_rows.result (λ (p : Counted). p.tables.pushed.count ≡ v.sealed.tables.pushed.count + v.needed)) c.self.view_is c.prepare_rows.ensures.count
+
+pub returns-clause-sealed : goal.returns-clause-sealed
+returns-clause-sealed g c =
+    subst (λ (v : View). IfOk c.prepare_rows.result (λ (p : Counted). p.sealed ≡ v.sealed.counts.rows_sealed + v.waiting)) c.self.view_is c.prepare_rows.ensures.sealed
+
+pub returns-clause-waits : goal.returns-clause-waits
+returns-clause-waits g c =
+    let before : Entries = g.F.MutableRows.entries c.self.inside.rows.fresh in
+    let after : Entries = g.F.MutableRows.entries c.prepare_rows.new.rows.fresh in
+    let old : Sealed = c.self.inside.rows.published in
+    let new : Sealed = c.prepare_rows.new.rows.published in
+    unpublished before after old new (tables_needed before old.tables) c.prepare_rows.ensures.fresh c.prepare_rows.ensures.loses c.self.inside.clock c.self.inside.kept c.args.self.now c.self.view_is
+    (ap (λ (v : View). v.needed) c.self.view_is)
+    (same_journal c.rows_spell_the_journal_they_show.ensures (parts_of before old.tables) (parts_of after new.tables)
+    (values_stay before after old new (tables_needed before old.tables) c.prepare_rows.ensures.fresh c.prepare_rows.ensures.loses) c.self.invariant.shows)

@@ -1,0 +1,50 @@
+use Rattle.std.proofs.Common.{◌≡◌, ◌∙◌, ℕ, List, length, sym, ap, subst, arith}
+use Rattle.tf_journal.specs.declared.entry.Entry.{Entry}
+use Rattle.tf_manifest.specs.View.{ShowsJournal}
+use Rattle.tf_forest.specs.Counts.{IsReady, Sealed, settled}
+use Rattle.tf_forest.specs.Forest.{View, journal_in}
+use Rattle.tf_forest.specs.Nest.{IsTree, fits_row, has_each}
+use Rattle.tf_forest.specs.Parts.{Entries, parts_of}
+use Rattle.tf_forest.specs.Publish.{entries_waiting, tables_needed}
+use Rattle.tf_forest.proofs.Notes.{same_forest, same_journal}
+use Rattle.tf_forest.proofs.PublishRows.{none_needed, none_waits}
+use Rattle.tf_forest.proofs.Refused.{logs_alone, values_alone}
+use Rattle.tf_forest.proofs.publishing.Forest+Rows+F+A+N+A.settle.Goals as goal
+
+pub settle-requires : goal.settle-requires
+settle-requires g c = (omega arith, (omega arith, subst (λ (v : View). IsReady v.sealed c.args.prepared.now) (sym c.self.view_is) c.requires.ready))
+
+pub invariant_of-self : goal.invariant_of-self
+invariant_of-self g c =
+    let before : Entries = g.F.MutableRows.entries c.self.inside.rows.fresh in
+    let after : Entries = g.F.MutableRows.entries c.clear.new.self in
+    let old : Sealed = c.self.inside.rows.published in
+    let new : Sealed = c.settle.new.self in
+    let was : List Entry = journal_in (parts_of before old.tables) in
+    let all : c.self.inside.kept ≡ length was =
+    ap (λ (v : View). v.kept) c.self.view_is ∙ c.requires.kept ∙ ap (λ (v : View). length v.journal) (sym c.self.view_is) in
+    let alone : ShowsJournal new.tables was =
+    subst (λ (j : List Entry). ShowsJournal new.tables j) (sym (ap (λ (v : View). v.journal) c.self.view_is))
+    (subst (λ (s : Sealed). ShowsJournal s.tables c.args.self.now.journal) (sym c.settle.ensures) c.requires.shows) in
+    same_forest has_each fits_row IsTree c.rows_spell_the_journal_they_show.ensures (parts_of before old.tables) (parts_of after new.tables) c.self.inside.notes.items c.self.inside.kept c.self.inside.floors c.self.inside.resident
+    (values_alone after new.tables c.clear.ensures before old.tables was alone c.self.invariant.shows.shows) (logs_alone after new.tables c.clear.ensures) c.self.invariant all
+
+pub returns : goal.returns
+returns g c =
+    let before : Entries = g.F.MutableRows.entries c.self.inside.rows.fresh in
+    let after : Entries = g.F.MutableRows.entries c.clear.new.self in
+    let old : Sealed = c.self.inside.rows.published in
+    let new : Sealed = c.settle.new.self in
+    let was : List Entry = journal_in (parts_of before old.tables) in
+    let alone : ShowsJournal new.tables was =
+    subst (λ (j : List Entry). ShowsJournal new.tables j) (sym (ap (λ (v : View). v.journal) c.self.view_is))
+    (subst (λ (s : Sealed). ShowsJournal s.tables c.args.self.now.journal) (sym c.settle.ensures) c.requires.shows) in
+    let journal : journal_in (parts_of after new.tables) ≡ was =
+    same_journal c.rows_spell_the_journal_they_show.ensures (parts_of before old.tables) (parts_of after new.tables)
+    (values_alone after new.tables c.clear.ensures before old.tables was alone c.self.invariant.shows.shows) c.self.invariant.shows in
+    let seen : List Entry → Sealed → ℕ → ℕ → View = λ j s n w. record { journal = j; sealed = s; needed = n; waiting = w; clock = c.self.inside.clock; kept = c.self.inside.kept } in
+    ap (λ (j : List Entry). seen j new (tables_needed after new.tables) (entries_waiting after)) journal
+    ∙ ap (λ (n : ℕ). seen was new n (entries_waiting after)) (none_needed after new.tables c.clear.ensures)
+    ∙ ap (λ (n : ℕ). seen was new 0 n) (none_waits after c.clear.ensures)
+    ∙ ap (λ (s : Sealed). seen was s 0 0) c.settle.ensures
+    ∙ ap (λ (v : View). record v { sealed = settled c.args.prepared.now v.sealed; needed = 0; waiting = 0 }) c.self.view_is
