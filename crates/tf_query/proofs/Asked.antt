@@ -1,0 +1,98 @@
+-- What scans have that filters ask for, and what is read at their timestamps.
+use Rattle.std.proofs.Common.{◌≡◌, ◌∙◌, sym, refl, ap, subst, Result, Ok, Err, IfOk, ℕ, Bool, true, false, not, ◌&&◌, List, [], ◌∷◌, Option}
+use Rattle.std.specs.Prelude.{◌==◌, map, if◌then◌else◌}
+use Rattle.std.specs.List.{cons_option, filter_map, list_all}
+use Rattle.tf_manifest.specs.declared.kind.UnitRow.TheVariants as unit
+use Rattle.tf_manifest.specs.View.{View}
+use Rattle.tf_records.specs.declared.account_filter.AccountFilter.{AccountFilter}
+use Rattle.tf_records.specs.declared.query_filter.QueryFilter.{QueryFilter}
+use Rattle.tf_journal.specs.Answer.{answer_of}
+use Rattle.tf_journal.specs.Filter.{Search}
+use Rattle.tf_scan.specs.declared.direction.Direction.{Direction}
+use Rattle.tf_scan.specs.Order.{IsInOrder}
+use Rattle.tf_scan.specs.Sets.{is_among}
+use Rattle.tf_query.specs.declared.condition.Condition.{Condition}
+use Rattle.tf_query.specs.declared.window.Window.{Window}
+use Rattle.tf_query.specs.Asked.{account_fields_at, account_filter_at, asks_no_field, meets_at, side_at, transfer_fields_at}
+use Rattle.tf_query.specs.Conditions.{account_conditions, asks_nothing, field_conditions, meets_all, transfer_conditions}
+use Rattle.tf_query.specs.Windows.{AreFirst, first_within}
+
+-- what is read at the first timestamps in a window
+pub answered : {T : Type 0} (read : ℕ → Option T) (w : Window) (accepts : ℕ → Bool) (timestamps : List ℕ) (answer : List T) → AreFirst w accepts timestamps → ((left : List ℕ) → IsInOrder w.direction left → ((t : ℕ) → is_among t left ≡ accepts t) → filter_map read (first_within w left) ≡ answer) → filter_map read timestamps ≡ answer
+answered read w accepts timestamps answer f law = ap (filter_map read) f.first ∙ law f.left f.in_order f.members
+
+-- ---- tests, in the order of conditions and in that of filters
+
+and-true : (b : Bool) → (b && true) ≡ b
+and-true true = refl
+and-true false = refl
+
+-- four fields and the side
+side-first : (s a b c d : Bool) → (s && (a && (b && (c && (d && true))))) ≡ (s && a && b && c && d)
+side-first false a b c d = refl
+side-first true false b c d = refl
+side-first true true false c d = refl
+side-first true true true false d = refl
+side-first true true true true d = and-true d
+
+five : (a b c d e : Bool) → (a && (b && (c && (d && (e && true))))) ≡ (a && b && c && d && e)
+five false b c d e = refl
+five true false c d e = refl
+five true true false d e = refl
+five true true true false e = refl
+five true true true true e = and-true e
+
+not-is : (b : Bool) → true ≡ not b → b ≡ false
+not-is true e = cc
+not-is false e = refl
+
+chosen : (b x y z : Bool) → b ≡ false → x ≡ z → x ≡ (if b then y else z)
+chosen b x y z e h = rw e h
+
+-- ---- an account's transfers
+
+pub account-members : (view : View) (filter : AccountFilter) (conditions : List Condition) (both left : List ℕ) → conditions ≡ field_conditions filter → ((t : ℕ) → is_among t both ≡ side_at view filter t) → ((t : ℕ) → is_among t left ≡ (is_among t both && meets_all view conditions t)) → (t : ℕ) → is_among t left ≡ account_filter_at view filter t
+account-members view filter conditions both left e sides members t =
+    members t
+    ∙ ap (λ b. b && meets_all view conditions t) (sides t)
+    ∙ ap (λ cs. side_at view filter t && meets_all view cs t) e
+    ∙ side-first (side_at view filter t) (meets_at view unit.TransferUserData128 filter.user_data_128 t) (meets_at view unit.TransferUserData64 filter.user_data_64 t) (meets_at view unit.TransferUserData32 filter.user_data_32 t) (meets_at view unit.TransferCode filter.code t)
+
+-- ---- all transfers, and all accounts
+
+pub transfer-members : (view : View) (filter : QueryFilter) (conditions : List Condition) (left : List ℕ) → conditions ≡ transfer_conditions filter → true ≡ not (list_all asks_nothing conditions) → ((t : ℕ) → is_among t left ≡ meets_all view conditions t) → (t : ℕ) → is_among t left ≡ transfer_fields_at view filter t
+transfer-members view filter conditions left e some members t =
+    let asks : asks_no_field filter ≡ false = sym (five (filter.user_data_128 == 0) (filter.user_data_64 == 0) (filter.user_data_32 == 0) (filter.ledger == 0) (filter.code == 0)) ∙ ap (list_all asks_nothing) (sym e) ∙ not-is _ some in
+    members t ∙ ap (λ cs. meets_all view cs t) e ∙ chosen (asks_no_field filter) _ _ _ asks (five (meets_at view unit.TransferUserData128 filter.user_data_128 t) (meets_at view unit.TransferUserData64 filter.user_data_64 t) (meets_at view unit.TransferUserData32 filter.user_data_32 t) (meets_at view unit.TransferLedger filter.ledger t) (meets_at view unit.TransferCode filter.code t))
+
+pub account_fields-members : (view : View) (filter : QueryFilter) (conditions : List Condition) (left : List ℕ) → conditions ≡ account_conditions filter → true ≡ not (list_all asks_nothing conditions) → ((t : ℕ) → is_among t left ≡ meets_all view conditions t) → (t : ℕ) → is_among t left ≡ account_fields_at view filter t
+account_fields-members view filter conditions left e some members t =
+    let asks : asks_no_field filter ≡ false = sym (five (filter.user_data_128 == 0) (filter.user_data_64 == 0) (filter.user_data_32 == 0) (filter.ledger == 0) (filter.code == 0)) ∙ ap (list_all asks_nothing) (sym e) ∙ not-is _ some in
+    members t ∙ ap (λ cs. meets_all view cs t) e ∙ chosen (asks_no_field filter) _ _ _ asks (five (meets_at view unit.AccountUserData128 filter.user_data_128 t) (meets_at view unit.AccountUserData64 filter.user_data_64 t) (meets_at view unit.AccountUserData32 filter.user_data_32 t) (meets_at view unit.AccountLedger filter.ledger t) (meets_at view unit.AccountCode filter.code t))
+
+-- two readings that give the same at each element
+pub filter_map-alike : {X Y : Type 0} (f h : X → Option Y) (xs : List X) → ((x : X) → f x ≡ h x) → filter_map f xs ≡ filter_map h xs
+filter_map-alike f h [] e = refl
+filter_map-alike f h (x ∷ xs) e = ap (λ o. cons_option o (filter_map f xs)) (e x) ∙ ap (cons_option (h x)) (filter_map-alike f h xs e)
+
+-- an invalid search finds nothing
+pub nothing : {X : Type 0} (search : Search X) (rows : List X) → search.is_valid ≡ false → [] ≡ answer_of search rows
+nothing search rows e = rw e refl
+
+-- an account without history has none, and an invalid filter asks for none
+pub no-history : {X Y : Type 0} (f : X → Y) (b : Bool) (rows : List X) → b ≡ false → [] ≡ (if b then map f rows else [])
+no-history f b rows e = rw e refl
+
+pub nothing-of-history : {X Y : Type 0} (f : X → Y) (b : Bool) (rows : List X) → [] ≡ rows → [] ≡ (if b then map f rows else [])
+nothing-of-history f true rows e = ap (map f) e
+nothing-of-history f false rows e = refl
+
+-- what was read off a scan in a window
+pub first-read : {T E : Type 0} (r : Result T E) (items : T → List ℕ) (w shown : Window) (d : Direction) (accepts : ℕ → Bool) (left : List ℕ) → shown ≡ w → d ≡ w.direction → IfOk r (λ v. items v ≡ first_within shown left) → IfOk r (λ v. IsInOrder d left) → ((t : ℕ) → is_among t left ≡ accepts t) → IfOk r (λ v. AreFirst w accepts (items v))
+first-read (Ok v) items w shown d accepts left same e first order members = record {
+  left = left;
+  in_order = subst (λ (x : Direction). IsInOrder x left) e order;
+  members = members;
+  first = first ∙ ap (λ (x : Window). first_within x left) same;
+}
+first-read (Err e') items w shown d accepts left same e first order members = tt

@@ -1,0 +1,14 @@
+pub mod Dated
+pub mod Directed
+pub mod Keyed
+pub mod Indexed
+pub mod Given
+pub mod Asking
+pub mod Answered
+pub mod Searches
+pub mod ById
+pub mod Spelling
+pub mod Reading
+pub mod Asked
+pub mod Narrowing
+pub mod Found

@@ -1,0 +1,36 @@
+-- Conditions that are met one after another.
+use Rattle.std.proofs.Common.{◌≡◌, ◌∙◌, sym, refl, ap, ℕ, ◌+◌, ◌<◌, Bool, true, false, not, ◌&&◌, ◌||◌, List, take, length, get_or}
+use Rattle.std.specs.Prelude.{nat_eq}
+use Rattle.std.specs.List.{list_all}
+use Rattle.std.proofs.lemmas.Bool.{ne_eqb}
+use Rattle.std.proofs.lemmas.List.Folds.{list_all_more}
+
+and-true : (b : Bool) → (b && true) ≡ b
+and-true true = refl
+and-true false = refl
+
+-- where 0 is asked for, all is left
+pub unasked : (v : ℕ) (b h : Bool) → v ≡ 0 → b ≡ (b && (nat_eq v 0 || h))
+unasked v b h e = rw e (sym (and-true b))
+
+-- else what the index has
+pub asked : (v : ℕ) (h : Bool) → (v ≡ 0 → ⊥) → h ≡ (nat_eq v 0 || h)
+asked v h e = rw (ne_eqb v 0 e) refl
+
+and-assoc : (a b c : Bool) → ((a && b) && c) ≡ (a && (b && c))
+and-assoc true b c = refl
+and-assoc false b c = refl
+
+or-not : (a b c : Bool) → ((a || not b) || not c) ≡ (a || not (b && c))
+or-not true b c = refl
+or-not false true c = refl
+or-not false false c = refl
+
+-- one more condition
+pub one-met : {X : Type 0} (p : X → Bool) (xs : List X) (i : ℕ) (d : X) (new old first : Bool) → i < length xs → new ≡ (old && p (get_or xs i d)) → old ≡ (first && list_all p (take i xs)) → new ≡ (first && list_all p (take (i + 1) xs))
+one-met p xs i d new old first h e f =
+    e ∙ ap (λ b. b && p (get_or xs i d)) f ∙ and-assoc first (list_all p (take i xs)) (p (get_or xs i d)) ∙ ap (λ b. first && b) (sym (list_all_more p xs i d h))
+
+pub one-asked : {X : Type 0} (p : X → Bool) (xs : List X) (i : ℕ) (d : X) (new old first : Bool) → i < length xs → new ≡ (old || not (p (get_or xs i d))) → old ≡ (first || not (list_all p (take i xs))) → new ≡ (first || not (list_all p (take (i + 1) xs)))
+one-asked p xs i d new old first h e f =
+    e ∙ ap (λ b. b || not (p (get_or xs i d))) f ∙ or-not first (list_all p (take i xs)) (p (get_or xs i d)) ∙ ap (λ b. first || not b) (sym (list_all_more p xs i d h))

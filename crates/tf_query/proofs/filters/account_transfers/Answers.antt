@@ -1,0 +1,23 @@
+use Rattle.std.proofs.Common.{◌≡◌, ◌∙◌, refl, sym, ap, subst, List, IfOk}
+use Rattle.std.specs.List.{filter_map}
+use Rattle.tf_records.specs.declared.transfer.Transfer.{Transfer}
+use Rattle.tf_query.specs.Asked.{account_filter_at}
+use Rattle.tf_query.specs.Reads.{transfer_in}
+use Rattle.tf_query.specs.Windows.{account_window}
+use Rattle.tf_journal.specs.Filter.{account_search}
+use Rattle.tf_journal.specs.Journal.{transfers_of}
+use Rattle.tf_query.proofs.Asked.{answered, nothing}
+use Rattle.tf_query.proofs.filters.account_transfers.Goals as goal
+
+pub returns-in-Ok-clause-ok : goal.returns-in-Ok-clause-ok
+returns-in-Ok-clause-ok g c journal sound shows =
+    let read = transfer_in c.args.manifest.now in
+    subst (λ (rows : List Transfer). IfOk c.transfers_at.result (λ v. v.items ≡ rows))
+    (ap (filter_map read) c.as_slice.ensures.value
+    ∙ answered read (account_window c.args.filter.now) (account_filter_at c.args.manifest.now c.args.filter.now) c.in-Ok.timestamps.items _ c.in-Ok.ensures.ok
+    (c.scans_answer_filters.ensures.account_transfers c.args.manifest.now journal sound shows c.args.filter.now (sym c.is_valid_account_filter.ensures ∙ c.if-not-is_valid_account_filter.false) (account_window c.args.filter.now).direction refl))
+    c.transfers_at.ensures.ok
+
+pub returns-then-not-is_valid_account_filter-clause-ok : goal.returns-then-not-is_valid_account_filter-clause-ok
+returns-then-not-is_valid_account_filter-clause-ok g c journal sound shows =
+    c.new.ensures.items ∙ nothing (account_search c.args.filter.now) (transfers_of journal) (sym c.is_valid_account_filter.ensures ∙ c.if-not-is_valid_account_filter.true)

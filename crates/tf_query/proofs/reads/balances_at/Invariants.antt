@@ -1,0 +1,7 @@
+use Rattle.std.proofs.Common.{◌≡◌, take}
+use Rattle.std.specs.List.{filter_map}
+use Rattle.tf_query.specs.Reads.{balance_in}
+use Rattle.tf_query.proofs.reads.balances_at.Given as goal
+
+abbrev pub invariant-loop-timestamp : goal.invariant-loop-timestamp
+invariant-loop-timestamp g l = l.rows.items ≡ filter_map (balance_in l.manifest l.account_id) (take l.timestamp-index l.timestamps)

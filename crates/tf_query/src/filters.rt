@@ -1,0 +1,160 @@
+//! The answers of filters, read from a manifest that shows a journal.
+ghost use Rattle.std.specs.Prelude.{◌≡◌, List, true, false, IfErr, IfOk, IsOk};
+ghost use Rattle.tf_journal.specs.declared.entry.Entry.{Entry};
+ghost use Rattle.tf_journal.specs.Answer.{account_transfers_of, found_accounts_of, found_transfers_of};
+ghost use Rattle.tf_journal.specs.Filter.{is_valid_account_filter, is_valid_query_filter};
+ghost use Rattle.tf_journal.specs.Lawful.{IsSound};
+ghost use Rattle.tf_manifest.specs.View.{ShowsJournal};
+ghost use Rattle.tf_query.specs.Asked.{account_fields_at, account_filter_at, transfer_fields_at};
+ghost use Rattle.tf_query.specs.Windows.{AreFirst, account_window, query_window};
+
+use crate::condition::{account_conditions, field_conditions, transfer_conditions};
+use crate::reads::{accounts_at, transfers_at};
+use crate::scans::{narrowed, object_scan, sides};
+use crate::scans_answer_filters;
+use crate::timestamps::timestamps_within;
+use crate::window::Window;
+use std::alloc::Allocator;
+use tf_journal::{is_valid_account_filter, is_valid_query_filter};
+use tf_manifest::{Manifest, Naming};
+use tf_records::{Account, AccountFilter, QueryFilter, Refusal, Transfer};
+
+/// The timestamps of the transfers that a valid filter of an account's transfers asks for, in its direction.
+pub fn account_timestamps<A: Allocator, N: Naming, B: Allocator + Copy>(
+    alloc: B,
+    manifest: &Manifest<'_, A, N>,
+    filter: &AccountFilter,
+) -> Result<Vec<u64, B>, Refusal>
+    requires { is_valid_account_filter filter.now ≡ true }
+    ensures ok { IfOk result (λ timestamps. AreFirst (account_window filter.now) (account_filter_at manifest.now filter.now) timestamps.items) }
+    ensures refusal { IfErr result (λ refusal. refusal ≡ Refusal.NoMemory) }
+{
+    let window = Window::of_account_filter(filter);
+    let both = match sides(alloc, manifest, window.direction, filter) {
+        Ok(both) => both,
+        Err(refusal) => return Err(refusal),
+    };
+    match narrowed(
+        alloc,
+        manifest,
+        window.direction,
+        Some(both),
+        &field_conditions(filter),
+    ) {
+        Ok(Some(mut scan)) => timestamps_within(alloc, &mut scan, &window),
+        Ok(None) => unreachable!(),
+        Err(refusal) => Err(refusal),
+    }
+}
+
+/// The timestamps of the transfers that a valid filter asks for, in its direction.
+fn transfer_timestamps<A: Allocator, N: Naming, B: Allocator + Copy>(
+    alloc: B,
+    manifest: &Manifest<'_, A, N>,
+    filter: &QueryFilter,
+) -> Result<Vec<u64, B>, Refusal>
+    ensures ok { IfOk result (λ timestamps. AreFirst (query_window filter.now) (transfer_fields_at manifest.now filter.now) timestamps.items) }
+    ensures refusal { IfErr result (λ refusal. refusal ≡ Refusal.NoMemory) }
+{
+    let window = Window::of_query_filter(filter);
+    match narrowed(
+        alloc,
+        manifest,
+        window.direction,
+        None,
+        &transfer_conditions(filter),
+    ) {
+        Ok(Some(mut scan)) => timestamps_within(alloc, &mut scan, &window),
+        Ok(None) => {
+            let mut scan = object_scan(manifest.transfers.row(0), window.direction);
+            timestamps_within(alloc, &mut scan, &window)
+        }
+        Err(refusal) => Err(refusal),
+    }
+}
+
+/// The timestamps of the accounts that a valid filter asks for, in its direction.
+fn found_account_timestamps<A: Allocator, N: Naming, B: Allocator + Copy>(
+    alloc: B,
+    manifest: &Manifest<'_, A, N>,
+    filter: &QueryFilter,
+) -> Result<Vec<u64, B>, Refusal>
+    ensures ok { IfOk result (λ timestamps. AreFirst (query_window filter.now) (account_fields_at manifest.now filter.now) timestamps.items) }
+    ensures refusal { IfErr result (λ refusal. refusal ≡ Refusal.NoMemory) }
+{
+    let window = Window::of_query_filter(filter);
+    match narrowed(
+        alloc,
+        manifest,
+        window.direction,
+        None,
+        &account_conditions(filter),
+    ) {
+        Ok(Some(mut scan)) => timestamps_within(alloc, &mut scan, &window),
+        Ok(None) => {
+            let mut scan = object_scan(manifest.accounts.row(0), window.direction);
+            timestamps_within(alloc, &mut scan, &window)
+        }
+        Err(refusal) => Err(refusal),
+    }
+}
+
+/// The transfers of an account that a filter asks for, in any journal that the manifest shows.
+pub fn account_transfers<A: Allocator, N: Naming, B: Allocator + Copy>(
+    alloc: B,
+    manifest: &Manifest<'_, A, N>,
+    filter: &AccountFilter,
+) -> Result<Vec<Transfer, B>, Refusal>
+    ensures ok { (journal : List Entry) → IsSound journal → ShowsJournal manifest.now journal → IfOk result (λ rows. rows.items ≡ account_transfers_of journal filter.now) }
+    ensures refusal { IfErr result (λ refusal. refusal ≡ Refusal.NoMemory) }
+    ensures invalid { is_valid_account_filter filter.now ≡ false → IsOk result }
+{
+    if !is_valid_account_filter(filter) {
+        return Ok(Vec::new(alloc));
+    }
+    scans_answer_filters();
+    match account_timestamps(alloc, manifest, filter) {
+        Ok(timestamps) => transfers_at(alloc, manifest, timestamps.as_slice()),
+        Err(refusal) => Err(refusal),
+    }
+}
+
+/// The transfers that a filter asks for, in any journal that the manifest shows.
+pub fn found_transfers<A: Allocator, N: Naming, B: Allocator + Copy>(
+    alloc: B,
+    manifest: &Manifest<'_, A, N>,
+    filter: &QueryFilter,
+) -> Result<Vec<Transfer, B>, Refusal>
+    ensures ok { (journal : List Entry) → IsSound journal → ShowsJournal manifest.now journal → IfOk result (λ rows. rows.items ≡ found_transfers_of journal filter.now) }
+    ensures refusal { IfErr result (λ refusal. refusal ≡ Refusal.NoMemory) }
+    ensures invalid { is_valid_query_filter filter.now ≡ false → IsOk result }
+{
+    if !is_valid_query_filter(filter) {
+        return Ok(Vec::new(alloc));
+    }
+    scans_answer_filters();
+    match transfer_timestamps(alloc, manifest, filter) {
+        Ok(timestamps) => transfers_at(alloc, manifest, timestamps.as_slice()),
+        Err(refusal) => Err(refusal),
+    }
+}
+
+/// The accounts that a filter asks for, as answers show them, in any journal that the manifest shows.
+pub fn found_accounts<A: Allocator, N: Naming, B: Allocator + Copy>(
+    alloc: B,
+    manifest: &Manifest<'_, A, N>,
+    filter: &QueryFilter,
+) -> Result<Vec<Account, B>, Refusal>
+    ensures ok { (journal : List Entry) → IsSound journal → ShowsJournal manifest.now journal → IfOk result (λ rows. rows.items ≡ found_accounts_of journal filter.now) }
+    ensures refusal { IfErr result (λ refusal. refusal ≡ Refusal.NoMemory) }
+    ensures invalid { is_valid_query_filter filter.now ≡ false → IsOk result }
+{
+    if !is_valid_query_filter(filter) {
+        return Ok(Vec::new(alloc));
+    }
+    scans_answer_filters();
+    match found_account_timestamps(alloc, manifest, filter) {
+        Ok(timestamps) => accounts_at(alloc, manifest, timestamps.as_slice()),
+        Err(refusal) => Err(refusal),
+    }
+}

@@ -1,0 +1,139 @@
+//! Look-ups of ids, read from a manifest that shows a journal.
+ghost use Rattle.std.specs.Prelude.{◌≡◌, List, Err, Ok, filter_map, length, IfErr, IfOk, MatchOption};
+ghost use Rattle.std.specs.Option.{option_and_then};
+ghost use Rattle.tf_journal.specs.declared.entry.Entry.{Entry};
+ghost use Rattle.tf_journal.specs.Answer.{lookup_refusal, looked_up_accounts, looked_up_transfers};
+ghost use Rattle.tf_journal.specs.Lawful.{IsSound};
+ghost use Rattle.tf_manifest.specs.View.{ShowsJournal};
+ghost use Rattle.tf_query.specs.Reads.{account_in, account_stamp_in, shown_in, transfer_in, transfer_stamp_in};
+
+use crate::reads::{account_at, key_of, push_found, stored_account_at, transfer_at};
+use crate::rows_find_ids;
+use std::alloc::Allocator;
+use tf_manifest::{IdStamp, Manifest, Naming};
+use tf_records::{Account, BATCH_MAX, Refusal, Transfer};
+
+/// The timestamp of the account with this id.
+fn account_stamp<A: Allocator, N: Naming>(manifest: &Manifest<'_, A, N>, id: u128) -> Option<u64>
+    ensures { result ≡ account_stamp_in manifest.now id }
+{
+    let timestamp = manifest.stamps.row(0).find(&key_of(id, 0))?;
+    Some(*timestamp)
+}
+
+/// The timestamp of the transfer with this id.
+fn transfer_stamp<A: Allocator, N: Naming>(manifest: &Manifest<'_, A, N>, id: u128) -> Option<u64>
+    ensures { result ≡ transfer_stamp_in manifest.now id }
+{
+    match manifest.ids.row(0).find(&key_of(id, 0)) {
+        Some(IdStamp::Stored(timestamp)) => Some(*timestamp),
+        _ => None,
+    }
+}
+
+/// The account with this id, as it was stored: two look-ups in rows.
+pub fn stored_account<A: Allocator, N: Naming>(
+    manifest: &Manifest<'_, A, N>,
+    id: u128,
+) -> Option<Account>
+    ensures { result ≡ option_and_then (account_in manifest.now) (account_stamp_in manifest.now id) }
+{
+    let timestamp = account_stamp(manifest, id)?;
+    stored_account_at(manifest, timestamp)
+}
+
+/// The account with this id as answers show it: three look-ups in rows.
+fn account<A: Allocator, N: Naming>(manifest: &Manifest<'_, A, N>, id: u128) -> Option<Account>
+    ensures { result ≡ option_and_then (shown_in manifest.now) (account_stamp_in manifest.now id) }
+{
+    let timestamp = account_stamp(manifest, id)?;
+    account_at(manifest, timestamp)
+}
+
+/// The transfer with this id: two look-ups in rows.
+fn transfer<A: Allocator, N: Naming>(manifest: &Manifest<'_, A, N>, id: u128) -> Option<Transfer>
+    ensures { result ≡ option_and_then (transfer_in manifest.now) (transfer_stamp_in manifest.now id) }
+{
+    let timestamp = transfer_stamp(manifest, id)?;
+    transfer_at(manifest, timestamp)
+}
+
+/// Refuses too many ids of a look-up.
+fn check_count(ids: &[u128]) -> Result<(), Refusal>
+    ensures { MatchOption (lookup_refusal (length ids.now)) (result ≡ Ok tt) (λ refusal. result ≡ Err refusal) }
+{
+    if ids.len() > BATCH_MAX as usize {
+        return Err(Refusal::BatchTooLarge);
+    }
+    Ok(())
+}
+
+/// The accounts with these ids. Room for them is made once.
+fn accounts<A: Allocator, N: Naming, B: Allocator>(
+    alloc: B,
+    manifest: &Manifest<'_, A, N>,
+    ids: &[u128],
+) -> Result<Vec<Account, B>, Refusal>
+    ensures ok { IfOk result (λ rows. rows.items ≡ filter_map (λ id. option_and_then (shown_in manifest.now) (account_stamp_in manifest.now id)) ids.now) }
+    ensures refusal { IfErr result (λ refusal. refusal ≡ Refusal.NoMemory) }
+{
+    let mut rows = Vec::with_capacity(alloc, ids.len())?;
+    for id in ids {
+        push_found(&mut rows, account(manifest, *id))?;
+    }
+    Ok(rows)
+}
+
+/// The transfers with these ids. Room for them is made once.
+fn transfers<A: Allocator, N: Naming, B: Allocator>(
+    alloc: B,
+    manifest: &Manifest<'_, A, N>,
+    ids: &[u128],
+) -> Result<Vec<Transfer, B>, Refusal>
+    ensures ok { IfOk result (λ rows. rows.items ≡ filter_map (λ id. option_and_then (transfer_in manifest.now) (transfer_stamp_in manifest.now id)) ids.now) }
+    ensures refusal { IfErr result (λ refusal. refusal ≡ Refusal.NoMemory) }
+{
+    let mut rows = Vec::with_capacity(alloc, ids.len())?;
+    for id in ids {
+        push_found(&mut rows, transfer(manifest, *id))?;
+    }
+    Ok(rows)
+}
+
+/// The accounts with these ids as answers show them, in any journal that the manifest shows.
+pub fn accounts_with_ids<A: Allocator, N: Naming, B: Allocator>(
+    alloc: B,
+    manifest: &Manifest<'_, A, N>,
+    ids: &[u128],
+) -> Result<Vec<Account, B>, Refusal>
+    ensures ok { (journal : List Entry) → IsSound journal → ShowsJournal manifest.now journal → IfOk result (λ rows. rows.items ≡ looked_up_accounts journal ids.now) }
+    ensures refused { MatchOption (lookup_refusal (length ids.now))
+        (IfErr result (λ refusal. refusal ≡ Refusal.NoMemory)) (λ refusal. result ≡ Err refusal) }
+{
+    match check_count(ids) {
+        Ok(()) => {
+            rows_find_ids();
+            accounts(alloc, manifest, ids)
+        }
+        Err(refusal) => Err(refusal),
+    }
+}
+
+/// The transfers with these ids, in any journal that the manifest shows.
+pub fn transfers_with_ids<A: Allocator, N: Naming, B: Allocator>(
+    alloc: B,
+    manifest: &Manifest<'_, A, N>,
+    ids: &[u128],
+) -> Result<Vec<Transfer, B>, Refusal>
+    ensures ok { (journal : List Entry) → IsSound journal → ShowsJournal manifest.now journal → IfOk result (λ rows. rows.items ≡ looked_up_transfers journal ids.now) }
+    ensures refused { MatchOption (lookup_refusal (length ids.now))
+        (IfErr result (λ refusal. refusal ≡ Refusal.NoMemory)) (λ refusal. result ≡ Err refusal) }
+{
+    match check_count(ids) {
+        Ok(()) => {
+            rows_find_ids();
+            transfers(alloc, manifest, ids)
+        }
+        Err(refusal) => Err(refusal),
+    }
+}

@@ -1,0 +1,162 @@
+//! Versions.
+ghost use Rattle.std.specs.Prelude.{◌≡◌, false, length, Err, IfErr, IfOk, IsOk, MatchOption};
+ghost use Rattle.tf_journal.specs.Answer.{account_transfers_of, found_accounts_of, found_transfers_of, history_of, lookup_refusal, looked_up_accounts, looked_up_transfers};
+ghost use Rattle.tf_journal.specs.Filter.{is_valid_account_filter, is_valid_query_filter};
+ghost use Rattle.tf_query.specs.Version.{ShowsLawfulJournal, journal_shown};
+
+use crate::filters::{account_transfers, found_accounts, found_transfers};
+use crate::history::account_history;
+use crate::look_ups::{accounts_with_ids, transfers_with_ids};
+use std::alloc::Allocator;
+use std::marker::Model;
+use tf_manifest::{Manifest, Naming};
+use tf_records::{Account, AccountBalance, AccountFilter, QueryFilter, Refusal, Transfer};
+
+/// A copy of a manifest that shows a lawful journal. Contracts see a version as that journal.
+///
+/// It holds references alone and borrows nothing but the registries' tables, so nothing that happens to the manifest
+/// changes it, and its calls wait for nobody. It has some 22 kilobytes, so it is better brought up to date in place, by
+/// `update`, than made again.
+#[derive(Drop)]
+pub struct Version<'r, A: Allocator, N: Naming> {
+    manifest: Manifest<'r, A, N>,
+}
+
+impl<'r, A: Allocator, N: Naming> Model for Version<'r, A, N> {
+    ghost use Rattle.std.specs.Prelude.{List};
+    ghost use Rattle.tf_journal.specs.declared.entry.Entry.{Entry};
+
+    ghost Value = { List Entry };
+
+    ghost use Rattle.tf_query.specs.Version.{ShowsLawfulJournal, journal_shown};
+
+    ghost view = { λ v. journal_shown v.manifest };
+
+    ghost invariant = { λ v. ShowsLawfulJournal v.manifest };
+}
+
+impl<'r, A: Allocator, N: Naming> Version<'r, A, N> {
+    /// A version of a manifest, by one pass over its references. It takes no memory.
+    pub fn new(manifest: &Manifest<'r, A, N>) -> Version<'r, A, N>
+        requires { ShowsLawfulJournal manifest.now }
+        ensures { result ≡ journal_shown manifest.now }
+    {
+        Version {
+            manifest: manifest.again(),
+        }
+    }
+
+    /// Makes this a version of a manifest, in place, by one pass over the references in use. It takes no memory.
+    pub fn update(&mut self, manifest: &Manifest<'r, A, N>)
+        requires { ShowsLawfulJournal manifest.now }
+        ensures { self.new ≡ journal_shown manifest.now }
+    {
+        self.manifest.copy_from(manifest);
+    }
+
+    /// The transfers of an account that a filter asks for: those with the account on a side that is asked for.
+    ///
+    /// They stand by rising timestamp, or by falling where the filter is reversed, and are the first `BATCH_MAX`, or the
+    /// first of the filter's limit where that is less. The answer of an invalid filter is empty and takes no memory.
+    /// [`Refusal::NoMemory`] is the only refusal.
+    ///
+    /// It reads the timestamps of the account's transfers, of those with each field that is asked for, and of both sides,
+    /// side by side, and seeks from one to the next that all can have. Memory is taken for two boxes for each of them but
+    /// the first, once for as many timestamps as the limit, and once for the rows. Restates the reference page
+    /// get_account_transfers.
+    pub fn get_account_transfers<B: Allocator + Copy>(
+        &self,
+        alloc: B,
+        filter: &AccountFilter,
+    ) -> Result<Vec<Transfer, B>, Refusal>
+        ensures ok { IfOk result (λ rows. rows.items ≡ account_transfers_of self.now filter.now) }
+        ensures refusal { IfErr result (λ refusal. refusal ≡ Refusal.NoMemory) }
+        ensures invalid { is_valid_account_filter filter.now ≡ false → IsOk result }
+    {
+        account_transfers(alloc, &self.manifest, filter)
+    }
+
+    /// The balances of an account right after each transfer that `get_account_transfers` gives, each with that transfer's
+    /// timestamp: of a stored account with the flag `HISTORY` alone, else nothing.
+    ///
+    /// Refused as there, and read in the same way, with a look-up in a row for each transfer. Restates the reference page
+    /// get_account_balances.
+    pub fn get_account_balances<B: Allocator + Copy>(
+        &self,
+        alloc: B,
+        filter: &AccountFilter,
+    ) -> Result<Vec<AccountBalance, B>, Refusal>
+        ensures ok { IfOk result (λ rows. rows.items ≡ history_of self.now filter.now) }
+        ensures refusal { IfErr result (λ refusal. refusal ≡ Refusal.NoMemory) }
+        ensures invalid { is_valid_account_filter filter.now ≡ false → IsOk result }
+    {
+        account_history(alloc, &self.manifest, filter)
+    }
+
+    /// The accounts that a filter asks for, each with its balances, and marked as closed where it is.
+    ///
+    /// Their order, number and refusals, and the cost, are those of `get_account_transfers`, with two look-ups in rows for
+    /// each account. Restates the reference page query_accounts.
+    pub fn query_accounts<B: Allocator + Copy>(
+        &self,
+        alloc: B,
+        filter: &QueryFilter,
+    ) -> Result<Vec<Account, B>, Refusal>
+        ensures ok { IfOk result (λ rows. rows.items ≡ found_accounts_of self.now filter.now) }
+        ensures refusal { IfErr result (λ refusal. refusal ≡ Refusal.NoMemory) }
+        ensures invalid { is_valid_query_filter filter.now ≡ false → IsOk result }
+    {
+        found_accounts(alloc, &self.manifest, filter)
+    }
+
+    /// The transfers that a filter asks for.
+    ///
+    /// Their order, number and refusals, and the cost, are those of `get_account_transfers`. Restates the reference page
+    /// query_transfers.
+    pub fn query_transfers<B: Allocator + Copy>(
+        &self,
+        alloc: B,
+        filter: &QueryFilter,
+    ) -> Result<Vec<Transfer, B>, Refusal>
+        ensures ok { IfOk result (λ rows. rows.items ≡ found_transfers_of self.now filter.now) }
+        ensures refusal { IfErr result (λ refusal. refusal ≡ Refusal.NoMemory) }
+        ensures invalid { is_valid_query_filter filter.now ≡ false → IsOk result }
+    {
+        found_transfers(alloc, &self.manifest, filter)
+    }
+
+    /// The accounts with these ids, in the order of the ids, each with its balances, and marked as closed where it is. An
+    /// id under which nothing is stored gives no row, and a repeated id gives its row again.
+    ///
+    /// More than `BATCH_MAX` ids are [`Refusal::BatchTooLarge`], before any memory is taken; else the only refusal is
+    /// [`Refusal::NoMemory`]. Takes three look-ups in rows for each id, and memory for as many rows as ids once. Restates the
+    /// reference page lookup_accounts.
+    pub fn lookup_accounts<B: Allocator>(
+        &self,
+        alloc: B,
+        ids: &[u128],
+    ) -> Result<Vec<Account, B>, Refusal>
+        ensures ok { IfOk result (λ rows. rows.items ≡ looked_up_accounts self.now ids.now) }
+        ensures refused { MatchOption (lookup_refusal (length ids.now))
+            (IfErr result (λ refusal. refusal ≡ Refusal.NoMemory)) (λ refusal. result ≡ Err refusal) }
+    {
+        accounts_with_ids(alloc, &self.manifest, ids)
+    }
+
+    /// The transfers with these ids, in the order of the ids. An id under which nothing is stored gives no row, and a
+    /// repeated id gives its row again.
+    ///
+    /// Refused as `lookup_accounts`. Takes two look-ups in rows for each id, and memory for as many rows as ids once.
+    /// Restates the reference page lookup_transfers.
+    pub fn lookup_transfers<B: Allocator>(
+        &self,
+        alloc: B,
+        ids: &[u128],
+    ) -> Result<Vec<Transfer, B>, Refusal>
+        ensures ok { IfOk result (λ rows. rows.items ≡ looked_up_transfers self.now ids.now) }
+        ensures refused { MatchOption (lookup_refusal (length ids.now))
+            (IfErr result (λ refusal. refusal ≡ Refusal.NoMemory)) (λ refusal. result ≡ Err refusal) }
+    {
+        transfers_with_ids(alloc, &self.manifest, ids)
+    }
+}
