@@ -1,3 +1,4 @@
+pub mod AllAnswers
 pub mod Dated
 pub mod Directed
 pub mod Keyed

@@ -1,3 +1,4 @@
+pub mod Many
 pub mod Matches
 pub mod Fields
 pub mod Reads

@@ -1,0 +1,17 @@
+-- Filters of all four queries, and what they are answered.
+use Rattle.std.specs.Prelude.{◌≡◌, List}
+use Rattle.tf_journal.specs.declared.entry.Entry.{Entry}
+use Rattle.tf_journal.specs.Answer.{account_transfers_of, found_accounts_of, found_transfers_of, history_of}
+use Rattle.tf_query.specs.declared.many.Answer.{Answer}
+use Rattle.tf_query.specs.declared.many.Answer.TheVariants as answer
+use Rattle.tf_query.specs.declared.many.Filter.{Filter}
+use Rattle.tf_query.specs.declared.many.Filter.TheVariants as filter
+
+module _ {A : Type 0} where
+  -- rows of the query that a filter is of: those that a journal has
+  abbrev pub IsAnswer : List Entry → Filter → Answer A → Type 0
+  IsAnswer journal (filter.AccountTransfers asked) (answer.AccountTransfers rows) = rows.items ≡ account_transfers_of journal asked
+  IsAnswer journal (filter.AccountBalances asked) (answer.AccountBalances rows) = rows.items ≡ history_of journal asked
+  IsAnswer journal (filter.Accounts asked) (answer.Accounts rows) = rows.items ≡ found_accounts_of journal asked
+  IsAnswer journal (filter.Transfers asked) (answer.Transfers rows) = rows.items ≡ found_transfers_of journal asked
+  IsAnswer journal _ _ = ⊥
