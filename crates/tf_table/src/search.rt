@@ -41,11 +41,9 @@ pub(crate) fn count_below(keys: &[Key], key: &Key, start: Start) -> usize
     let mut high = keys.len();
     while low < high {
         let look = next_look(low, high, keys.len(), start);
-        if keys[look].cmp(key).is_lt() {
-            low = look + 1;
-        } else {
-            high = look;
-        }
+        let is_below = keys[look].is_below(key);
+        low = if is_below { look + 1 } else { low };
+        high = if is_below { high } else { look };
     }
     low
 }
@@ -85,10 +83,10 @@ fn is_first(keys: &[Key], place: usize, key: &Key) -> bool
     ensures before { (earlier : ℕ) (d : Key) → IsTrue result → earlier + 1 ≡ place → is_lt (key_cmp (slice_index_or keys.now earlier d) key.now) ≡ true }
     ensures after { (d : Key) → IsTrue result → is_lt (key_cmp (slice_index_or keys.now place d) key.now) ≡ false }
 {
-    if place >= keys.len() || keys[place].cmp(key).is_lt() {
+    if place >= keys.len() || keys[place].is_below(key) {
         return false;
     }
-    place == 0 || keys[place - 1].cmp(key).is_lt()
+    place == 0 || keys[place - 1].is_below(key)
 }
 
 /// How many keys are not above `key`: a place with no greater key right before it and a greater one at it.
@@ -101,11 +99,9 @@ pub(crate) fn count_upto(keys: &[Key], key: &Key, start: Start) -> usize
     let mut high = keys.len();
     while low < high {
         let look = next_look(low, high, keys.len(), start);
-        if keys[look].cmp(key).is_gt() {
-            high = look;
-        } else {
-            low = look + 1;
-        }
+        let is_above = keys[look].is_above(key);
+        low = if is_above { low } else { look + 1 };
+        high = if is_above { look } else { high };
     }
     low
 }

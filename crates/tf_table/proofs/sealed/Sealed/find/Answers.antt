@@ -1,6 +1,5 @@
 use Rattle.std.proofs.Common.{◌≡◌, length, get_or, None, true, false, arith, ap, sym, ◌∙◌, subst}
 use Rattle.std.specs.Option.{option_copied}
-use Rattle.std.proofs.lemmas.Bool.{false≢true}
 use Rattle.std.specs.Ordering.{is_lt, is_eq}
 use Rattle.tf_table.specs.Key.{key_cmp}
 use Rattle.tf_table.specs.Rows.{rows_of}
