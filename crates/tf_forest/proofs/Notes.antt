@@ -1,8 +1,8 @@
 -- Notes that take entries back: one more, one less, and what they leave of the journal.
 use Rattle.std.proofs.Common.{◌≡◌, ◌≢◌, ◌+◌, ◌-◌, ◌≤◌, ℕ, suc, List, [], ◌∷◌, ◌++◌, length, take, Bool, Some, None, refl, sym, ◌∙◌, ap, subst, arith, append-nil}
-use Rattle.std.proofs.lemmas.List.{append_assoc, length-append, take_at}
+use Rattle.std.proofs.lemmas.List.{append_assoc, length-append, take-append-le, take_at}
 use Rattle.std.proofs.lemmas.Option.{none-some}
-use Rattle.std.proofs.lemmas.List.Elements.{All-head, All-tail}
+use Rattle.std.proofs.lemmas.List.Elements.{All-head, All-nil, All-tail}
 use Rattle.tf_journal.specs.declared.entry.Entry.{Entry}
 use Rattle.tf_journal.specs.Lawful.{IsSound}
 use Rattle.tf_journal.specs.Ledger.{CanGrow}
@@ -59,8 +59,8 @@ pub journal_length : (journal : List Entry) → IsJournal journal → length jou
 journal_length journal is = let long = rising_length 0 last_timestamp journal (omega arith) is.rising is.in_range in omega arith
 
 -- what is kept and the notes together are the journal's length
-pub noted_length : (has : Row → Bool) (fits : Row → Value → Bool) (takes_any : Row → Type 0) (rows : Parts) (notes : List Noted) (kept n : ℕ) (lows : Floors) (held : List (ℕ × Party)) → IsForest has fits takes_any rows notes kept lows held → n ≡ length notes → kept + n ≤ last_timestamp
-noted_length has fits takes_any rows notes kept n lows held is own =
+pub noted_length : (has : Row → Bool) (fits : Row → Value → Bool) (takes_any : Row → Type 0) (rows : Parts) (notes : List Noted) (kept clock n : ℕ) (lows : Floors) (held : List (ℕ × Party)) → IsForest has fits takes_any rows notes kept clock lows held → n ≡ length notes → kept + n ≤ last_timestamp
+noted_length has fits takes_any rows notes kept clock n lows held is own =
     let long = journal_length (journal_in rows) is.shows.sound.is_journal in
     let count = is.count in
     omega arith
@@ -78,7 +78,7 @@ module _ (has : Row → Bool) (fits : Row → Value → Bool) (takes_any : Row �
     pub back : all_stepped note.steps new ≡ old
     pub accounts : (id : ℕ) → accounts_before note.formers (party_of (journal_in old ++ e ∷ [])) id ≡ party_of (journal_in old) id
 
-  module _ (spell : Spell) (old new : Parts) (notes : List Noted) (note : Noted) (kept : ℕ) (lows : Floors) (held : List (ℕ × Party)) (e : Entry) (was : IsForest has fits takes_any old notes kept lows held) (grows : CanGrow (journal_in old) e) (is : IsGrown old new e note) where
+  module _ (spell : Spell) (old new : Parts) (notes : List Noted) (note : Noted) (kept clock : ℕ) (lows : Floors) (held : List (ℕ × Party)) (e : Entry) (was : IsForest has fits takes_any old notes kept clock lows held) (grows : CanGrow (journal_in old) e) (is : IsGrown old new e note) where
     now_sound : IsSound (journal_in old ++ e ∷ [])
     now_sound = sound_push (journal_in old) e was.shows.sound grows
 
@@ -96,7 +96,7 @@ module _ (has : Row → Bool) (fits : Row → Value → Bool) (takes_any : Row �
           ∙ ap (λ (rows : Parts). party_of (journal_in rows) id) (sym is.back);
     }
 
-    pub grown_forest : (after : Floors) (now : List (ℕ × Party)) → HaveFloors after (journal_in old ++ e ∷ []) kept → AreAmong (party_of (journal_in old ++ e ∷ [])) now → IsForest has fits takes_any new (notes ++ note ∷ []) kept after now
+    pub grown_forest : (after : Floors) (now : List (ℕ × Party)) → HaveFloors after (journal_in old ++ e ∷ []) kept → AreAmong (party_of (journal_in old ++ e ∷ [])) now → IsForest has fits takes_any new (notes ++ note ∷ []) kept clock after now
     grown_forest after now have right = record {
       shows = record {
         sound = subst IsSound (sym grown_journal) now_sound;
@@ -111,6 +111,9 @@ module _ (has : Row → Bool) (fits : Row → Value → Bool) (takes_any : Row �
           omega arith;
       floors = subst (λ (j : List Entry). HaveFloors after j kept) (sym grown_journal) have;
       resident = subst (λ (j : List Entry). AreAmong (party_of j) now) (sym grown_journal) right;
+      up_to =
+          let count = was.count in
+          subst (IsUpTo clock) (sym (ap (take kept) grown_journal ∙ take-append-le kept (journal_in old) (e ∷ []) (omega arith))) was.up_to;
     }
 
 -- a journal with nothing cut, and cut once more
@@ -206,7 +209,7 @@ no_tombstone rows empty r log key =
 pub empty_journal : Spell → (rows : Parts) → AreEmpty rows → journal_in rows ≡ []
 empty_journal spell rows empty = spell rows [] sound_nothing (nothing_shown rows empty)
 
-pub empty_forest : (has : Row → Bool) (fits : Row → Value → Bool) (takes_any : Row → Type 0) → Spell → (rows : Parts) → AreEmpty rows → (lows : Floors) → HaveFloors lows [] 0 → IsForest has fits takes_any rows [] 0 lows []
+pub empty_forest : (has : Row → Bool) (fits : Row → Value → Bool) (takes_any : Row → Type 0) → Spell → (rows : Parts) → AreEmpty rows → (lows : Floors) → HaveFloors lows [] 0 → IsForest has fits takes_any rows [] 0 0 lows []
 empty_forest has fits takes_any spell rows empty lows have = record {
   shows = record {
     sound = subst IsSound (sym (empty_journal spell rows empty)) sound_nothing;
@@ -217,6 +220,7 @@ empty_forest has fits takes_any spell rows empty lows have = record {
   count = ap (λ (j : List Entry). length j) (empty_journal spell rows empty);
   floors = subst (λ (j : List Entry). HaveFloors lows j 0) (sym (empty_journal spell rows empty)) have;
   resident = λ id party there. absurd (none-some party there);
+  up_to = subst (λ (j : List Entry). IsUpTo 0 (take 0 j)) (sym (empty_journal spell rows empty)) (All-nil (λ (e : Entry). timestamp_of e ≤ 0));
 }
 
 -- rows with the same value at each key show the same journal
@@ -231,9 +235,9 @@ no_notes [] none = refl
 no_notes (note ∷ notes) none = absurd (omega arith)
 
 -- a forest that keeps all its entries, over such rows
-pub same_forest : (has : Row → Bool) (fits : Row → Value → Bool) (takes_any : Row → Type 0) → Spell → (old new : Parts) (notes : List Noted) (kept : ℕ) (lows : Floors) (held : List (ℕ × Party)) → ((r : Row) (key : Key) → value_of_part (new r) key ≡ value_of_part (old r) key) → LogsHaveValues new
-    → IsForest has fits takes_any old notes kept lows held → kept ≡ length (journal_in old) → IsForest has fits takes_any new notes kept lows held
-same_forest has fits takes_any spell old new notes kept lows held same values was all =
+pub same_forest : (has : Row → Bool) (fits : Row → Value → Bool) (takes_any : Row → Type 0) → Spell → (old new : Parts) (notes : List Noted) (kept clock : ℕ) (lows : Floors) (held : List (ℕ × Party)) → ((r : Row) (key : Key) → value_of_part (new r) key ≡ value_of_part (old r) key) → LogsHaveValues new
+    → IsForest has fits takes_any old notes kept clock lows held → kept ≡ length (journal_in old) → IsForest has fits takes_any new notes kept clock lows held
+same_forest has fits takes_any spell old new notes kept clock lows held same values was all =
     let journal = same_journal spell old new same was.shows in
     let count = was.count in
     record {
@@ -246,4 +250,5 @@ same_forest has fits takes_any spell old new notes kept lows held same values wa
       count = ap (λ (j : List Entry). length j) journal ∙ was.count;
       floors = subst (λ (j : List Entry). HaveFloors lows j kept) (sym journal) was.floors;
       resident = subst (λ (j : List Entry). AreAmong (party_of j) held) (sym journal) was.resident;
+      up_to = subst (λ (j : List Entry). IsUpTo clock (take kept j)) (sym journal) was.up_to;
     }

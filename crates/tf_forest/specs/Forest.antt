@@ -1,6 +1,7 @@
 -- The journal that rows spell, and the notes that take its last entries back.
-use Rattle.std.specs.Prelude.{◌≡◌, ◌+◌, ℕ, List, [], ◌∷◌, ◌++◌, length, ⊤, Bool}
+use Rattle.std.specs.Prelude.{◌≡◌, ◌+◌, ℕ, List, [], ◌∷◌, ◌++◌, length, take, ⊤, Bool}
 use Rattle.tf_journal.specs.declared.entry.Entry.{Entry}
+use Rattle.tf_journal.specs.Journal.{IsUpTo}
 use Rattle.tf_journal.specs.Lawful.{IsSound}
 use Rattle.tf_table.specs.Content.{content_of}
 use Rattle.tf_manifest.specs.declared.row.Row.{Row}
@@ -60,13 +61,14 @@ module _ (has : Row → Bool) (fits : Row → Value → Bool) (takes_any : Row �
   AreRight (note ∷ notes) rows = AreRight notes rows × TakesBack note (all_undone notes rows)
 
   -- what always holds of a forest: its rows show their journal, a note takes back each entry that isn't kept, no transfer
-  -- can expire below its floors, and the accounts that it holds are right
-  pub record IsForest (rows : Parts) (notes : List Noted) (kept : ℕ) (lows : Floors) (held : List (ℕ × Party)) : Type 0 where
+  -- can expire below its floors, the accounts that it holds are right, and no entry that is kept is younger than its clock
+  pub record IsForest (rows : Parts) (notes : List Noted) (kept clock : ℕ) (lows : Floors) (held : List (ℕ × Party)) : Type 0 where
     pub shows : ShowTheirJournal rows
     pub right : AreRight notes rows
     pub count : length (journal_in rows) ≡ kept + length notes
     pub floors : HaveFloors lows (journal_in rows) kept
     pub resident : AreAmong (party_of (journal_in rows)) held
+    pub up_to : IsUpTo clock (take kept (journal_in rows))
 
 -- a journal without so many of its last entries
 pub record IsCut (old new : List Entry) (count : ℕ) : Type 0 where

@@ -59,7 +59,7 @@ impl<S: AllRows + Drop, A: Allocator + Copy> Model for Forest<S, A> {
 
     ghost view = { λ f. record { journal = journal_in (S.parts f.rows); sealed = S.sealed f.rows; needed = tables_needed (fresh_in (S.parts f.rows)) (S.sealed f.rows).tables; waiting = entries_waiting (fresh_in (S.parts f.rows)); clock = f.clock; kept = f.kept } };
 
-    ghost invariant = { λ f. IsForest S.has_row S.fits S.takes_any (S.parts f.rows) f.notes.items f.kept f.floors f.resident };
+    ghost invariant = { λ f. IsForest S.has_row S.fits S.takes_any (S.parts f.rows) f.notes.items f.kept f.clock f.floors f.resident };
 }
 
 impl<S: AllRows + Drop, A: Allocator + Copy> Forest<S, A> {
@@ -98,11 +98,13 @@ impl<S: AllRows + Drop, A: Allocator + Copy> Forest<S, A> {
         &self.rows
     }
 
-    /// What always holds of the journal: it is sound and within limits, and what is kept of it is there. It does nothing.
+    /// What always holds of the journal: it is sound and within limits, what is kept of it is there, and none of that is
+    /// younger than the clock. It does nothing.
     pub fn facts(&self)
         ensures sound { IsSound self.now.journal }
         ensures limits { IsWithinLimits self.now.journal }
         ensures kept { self.now.kept ≤ length self.now.journal }
+        ensures up_to { IsUpTo self.now.clock (take self.now.kept self.now.journal) }
     {
         journals_are_within_limits();
         // Only a field that is read tells what holds of the whole.

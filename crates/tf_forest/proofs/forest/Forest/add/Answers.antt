@@ -47,8 +47,8 @@ invariant_of-self-2 g c =
     c.note_down.ensures
     ∙ ap (λ (ns : List Noted). ns ++ c.new.result ∷ []) c.make_room.ensures.items
     ∙ ap (λ (n : Noted). c.self.inside.notes.items ++ n ∷ []) c.new.ensures in
-    subst (λ (ns : List Noted). IsForest g.S.RowSet.has_row g.S.RowSet.fits g.S.RowSet.takes_any new ns c.self.inside.kept c.after-self-inside.result c.after.new.self) (sym noted)
-    (grown_forest g.S.RowSet.has_row g.S.RowSet.fits g.S.RowSet.takes_any c.rows_spell_the_journal_they_show.ensures old new c.self.inside.notes.items note c.self.inside.kept c.self.inside.floors c.self.inside.resident e c.self.invariant grows grown
+    subst (λ (ns : List Noted). IsForest g.S.RowSet.has_row g.S.RowSet.fits g.S.RowSet.takes_any new ns c.self.inside.kept c.self.inside.clock c.after-self-inside.result c.after.new.self) (sym noted)
+    (grown_forest g.S.RowSet.has_row g.S.RowSet.fits g.S.RowSet.takes_any c.rows_spell_the_journal_they_show.ensures old new c.self.inside.notes.items note c.self.inside.kept c.self.inside.clock c.self.inside.floors c.self.inside.resident e c.self.invariant grows grown
     c.after-self-inside.result c.after.new.self (c.after-self-inside.ensures.holds (journal_in old) c.self.inside.kept c.self.invariant.shows.sound grows is c.self.invariant.floors)
     (c.after.ensures (journal_in old) c.self.invariant.shows.sound grows is c.self.invariant.resident))
 
@@ -69,7 +69,7 @@ returns-clause-addition g c =
       accounts = c.formers_of.ensures.back (journal_in old) c.self.invariant.shows.sound grows is;
     } in
     record {
-      ok = grown_journal g.S.RowSet.has_row g.S.RowSet.fits g.S.RowSet.takes_any c.rows_spell_the_journal_they_show.ensures old new c.self.inside.notes.items note c.self.inside.kept c.self.inside.floors c.self.inside.resident e c.self.invariant grows grown
+      ok = grown_journal g.S.RowSet.has_row g.S.RowSet.fits g.S.RowSet.takes_any c.rows_spell_the_journal_they_show.ensures old new c.self.inside.notes.items note c.self.inside.kept c.self.inside.clock c.self.inside.floors c.self.inside.resident e c.self.invariant grows grown
           ∙ ap (λ (j : List Entry). j ++ e ∷ []) same;
       err = tt;
       refusal = tt;

@@ -1,8 +1,10 @@
-use Rattle.std.proofs.Common.{◌≡◌, ◌+◌, ℕ, length, subst, arith, rules}
+use Rattle.std.proofs.Common.{◌≡◌, ◌+◌, ℕ, length, ap, subst, sym, arith, rules}
+use Rattle.std.proofs.lemmas.List.{take_all}
+use Rattle.tf_journal.specs.Journal.{IsUpTo}
 use Rattle.tf_manifest.specs.declared.row.Row.TheVariants as row
 use Rattle.tf_forest.specs.Edits.{party_of}
 use Rattle.tf_forest.specs.Floors.{HaveFloors}
-use Rattle.tf_forest.specs.Forest.{journal_in}
+use Rattle.tf_forest.specs.Forest.{View, journal_in}
 use Rattle.tf_forest.specs.Next.{content_in}
 use Rattle.tf_forest.specs.Parts.{Parts}
 use Rattle.tf_forest.proofs.Notes.{noted_length}
@@ -10,7 +12,7 @@ use Rattle.tf_forest.proofs.forest.Forest.keep.Goals as goal
 
 pub overflow_add-self : goal.overflow_add-self
 overflow_add-self g c =
-    let bound = noted_length g.S.RowSet.has_row g.S.RowSet.fits g.S.RowSet.takes_any _ c.self.inside.notes.items c.self.inside.kept c.len.result c.self.inside.floors c.self.inside.resident c.self.invariant (search rules) in
+    let bound = noted_length g.S.RowSet.has_row g.S.RowSet.fits g.S.RowSet.takes_any _ c.self.inside.notes.items c.self.inside.kept c.self.inside.clock c.len.result c.self.inside.floors c.self.inside.resident c.self.invariant (search rules) in
     omega (arith, bound)
 
 pub invariant_of-self : goal.invariant_of-self
@@ -24,6 +26,9 @@ invariant_of-self g c =
       floors = subst (λ (n : ℕ). HaveFloors c.at-self-inside.result (journal_in rows) n) all
           (c.at-self-inside.ensures.holds (journal_in rows) (content_in rows) c.self.inside.floors.present c.self.invariant.shows.shows c.self.invariant.floors.present c.first_from-first.ensures);
       resident = c.make_place.ensures (party_of (journal_in rows)) c.self.invariant.resident;
+      up_to =
+          subst (IsUpTo c.args.moment) (sym (take_all (c.self.inside.kept + c.len.result) (journal_in rows) (omega (arith, all))))
+          (subst (IsUpTo c.args.moment) (sym (ap (λ (v : View). v.journal) c.self.view_is)) c.requires.up_to);
     }
 
 pub first_from-first-requires : goal.first_from-first-requires

@@ -1,5 +1,7 @@
-use Rattle.std.proofs.Common.{◌≡◌, ◌-◌, List, length, take, ap, subst, arith}
+use Rattle.std.proofs.Common.{◌≡◌, ◌-◌, List, length, take, ap, subst, sym, arith}
+use Rattle.std.proofs.lemmas.List.{take-take}
 use Rattle.tf_journal.specs.declared.entry.Entry.{Entry}
+use Rattle.tf_journal.specs.Journal.{IsUpTo}
 use Rattle.tf_forest.specs.Floors.{HaveFloors}
 use Rattle.tf_forest.specs.Forest.{View, journal_in}
 use Rattle.tf_forest.proofs.Notes.{cut_is_taken, cut_length}
@@ -25,4 +27,7 @@ invariant_of-self g c =
       count = omega arith;
       floors = subst (λ (journal : List Entry). HaveFloors c.back-self-inside.result journal kept) taken (c.back-self-inside.ensures.holds old kept n (omega arith) c.self.invariant.floors);
       resident = c.undo_to.ensures.resident;
+      up_to =
+          subst (λ (j : List Entry). IsUpTo c.self.inside.clock (take kept j)) taken
+          (subst (IsUpTo c.self.inside.clock) (sym (take-take kept n old (omega arith))) c.self.invariant.up_to);
     }
