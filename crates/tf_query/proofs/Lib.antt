@@ -1,4 +1,3 @@
-pub mod AllAnswers
 pub mod Dated
 pub mod Directed
 pub mod Keyed

@@ -1,4 +1,3 @@
-pub mod Many
 pub mod Matches
 pub mod Fields
 pub mod Reads

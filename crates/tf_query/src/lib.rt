@@ -10,7 +10,6 @@ mod filters;
 mod history;
 mod laws;
 mod look_ups;
-mod many;
 mod reads;
 mod scans;
 mod timestamps;
@@ -21,5 +20,4 @@ pub use laws::{
     lists_in_order_are_unique, manifests_spell_their_journal, records_are_dated, rows_find_ids,
     rows_give_records, rows_index_records, scans_answer_filters, scans_list_matches,
 };
-pub use many::{Answer, Filter};
 pub use version::Version;

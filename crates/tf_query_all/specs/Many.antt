@@ -2,10 +2,10 @@
 use Rattle.std.specs.Prelude.{◌≡◌, List}
 use Rattle.tf_journal.specs.declared.entry.Entry.{Entry}
 use Rattle.tf_journal.specs.Answer.{account_transfers_of, found_accounts_of, found_transfers_of, history_of}
-use Rattle.tf_query.specs.declared.many.Answer.{Answer}
-use Rattle.tf_query.specs.declared.many.Answer.TheVariants as answer
-use Rattle.tf_query.specs.declared.many.Filter.{Filter}
-use Rattle.tf_query.specs.declared.many.Filter.TheVariants as filter
+use Rattle.tf_query_all.specs.declared.filter.Answer.{Answer}
+use Rattle.tf_query_all.specs.declared.filter.Answer.TheVariants as answer
+use Rattle.tf_query_all.specs.declared.filter.Filter.{Filter}
+use Rattle.tf_query_all.specs.declared.filter.Filter.TheVariants as filter
 
 module _ {A : Type 0} where
   -- rows of the query that a filter is of: those that a journal has
