@@ -5,8 +5,9 @@ use crate::events::{
     account_id, Ids, Transfers, ACCOUNTS, CODES, LEDGERS, USER_DATA_64, WITH_HISTORY,
 };
 use crate::keys::{mixed, Generator};
-use crate::ledger::{AccountFilter, Ledger, QueryFilter, Transfer, BATCH_MAX};
+use crate::ledger::{AccountBalance, AccountFilter, Ledger, QueryFilter, Transfer, BATCH_MAX};
 use crate::{measure, Measured, Run};
+use std::thread;
 
 /// How many queries of an account, or of a code in a time, a workload makes.
 pub const QUERIES: u64 = 10_000;
@@ -16,6 +17,10 @@ pub const VALUES: u64 = 1_000;
 
 /// How many queries of a code in a ledger a workload makes.
 pub const CODES_IN_LEDGERS: u64 = 100;
+
+/// How many rows a short answer has at most, and a long one.
+pub const SHORT: u32 = 10;
+pub const LONG: u32 = 200;
 
 /// Which part of all time a query asks for: one of so many.
 const TIMES: u64 = 100;
@@ -40,10 +45,7 @@ pub fn account_last(run: Run, limit: u32) -> Measured {
 /// The first balances of any account with history.
 pub fn balances(run: Run, limit: u32) -> Measured {
     of_accounts(run, limit, BOTH, WITH_HISTORY, |ledger, filter| {
-        let rows = ledger.account_balances(filter);
-        rows.iter().fold(0, |sum, row| {
-            mixed(mixed(sum, row.timestamp), row.debits_posted as u64)
-        })
+        balances_sum(&ledger.account_balances(filter))
     })
 }
 
@@ -57,13 +59,18 @@ fn of_accounts(
 ) -> Measured {
     let ledger = ledger(run, Ids::Rising);
     let mut numbers = Generator::new(run.seed);
-    let filters = (0..QUERIES).map(|_| AccountFilter {
+    let filters = (0..QUERIES).map(|_| of_account(&mut numbers, accounts, limit, flags));
+    measure_all(filters.collect(), |filter| answer(&ledger, filter))
+}
+
+/// A filter of one of so many accounts.
+fn of_account(numbers: &mut Generator, accounts: u64, limit: u32, flags: u32) -> AccountFilter {
+    AccountFilter {
         account_id: account_id(numbers.number() % accounts),
         limit,
         flags,
         ..AccountFilter::default()
-    });
-    measure_all(filters.collect(), |filter| answer(&ledger, filter))
+    }
 }
 
 /// The transfers of any code in a hundredth of all time.
@@ -87,13 +94,17 @@ pub fn code_in_time(run: Run) -> Measured {
 /// The transfers with any value of `user_data_64` in any ledger.
 pub fn user_data_64_with_ledger(run: Run) -> Measured {
     let mut numbers = Generator::new(run.seed);
-    let filters = (0..VALUES).map(|_| QueryFilter {
+    let filters = (0..VALUES).map(|_| value_in_ledger(&mut numbers));
+    measure_queries(&ledger(run, Ids::Rising), filters.collect())
+}
+
+fn value_in_ledger(numbers: &mut Generator) -> QueryFilter {
+    QueryFilter {
         user_data_64: 1 + numbers.number() % USER_DATA_64,
         ledger: 1 + (numbers.number() % LEDGERS) as u32,
         limit: u32::MAX,
         ..QueryFilter::default()
-    });
-    measure_queries(&ledger(run, Ids::Rising), filters.collect())
+    }
 }
 
 /// As many transfers as an answer has room for, of any code in any ledger.
@@ -111,6 +122,79 @@ pub fn ledger_with_code(run: Run) -> Measured {
 fn measure_queries(ledger: &Ledger, filters: Vec<QueryFilter>) -> Measured {
     measure_all(filters, |filter| {
         timestamps(&ledger.query_transfers(filter))
+    })
+}
+
+/// A question of one of four kinds.
+enum Question {
+    Transfers(AccountFilter),
+    Balances(AccountFilter),
+    Found(QueryFilter),
+}
+
+enum Answer {
+    Transfers(Vec<Transfer>),
+    Balances(Vec<AccountBalance>),
+}
+
+impl Question {
+    /// The question at a place: the four kinds take turns.
+    fn at(numbers: &mut Generator, place: u64) -> Self {
+        let back = BOTH | AccountFilter::REVERSED;
+        match place % 4 {
+            0 => Question::Transfers(of_account(numbers, ACCOUNTS, SHORT, BOTH)),
+            1 => Question::Transfers(of_account(numbers, ACCOUNTS, LONG, back)),
+            2 => Question::Balances(of_account(numbers, WITH_HISTORY, LONG, BOTH)),
+            _ => Question::Found(value_in_ledger(numbers)),
+        }
+    }
+
+    fn answer(&self, ledger: &Ledger) -> Answer {
+        match self {
+            Question::Transfers(filter) => Answer::Transfers(ledger.account_transfers(filter)),
+            Question::Balances(filter) => Answer::Balances(ledger.account_balances(filter)),
+            Question::Found(filter) => Answer::Transfers(ledger.query_transfers(filter)),
+        }
+    }
+}
+
+impl Answer {
+    fn sum(&self) -> u64 {
+        match self {
+            Answer::Transfers(rows) => timestamps(rows),
+            Answer::Balances(rows) => balances_sum(rows),
+        }
+    }
+}
+
+/// Queries of four kinds at once, on all processors.
+pub fn all(run: Run) -> Measured {
+    let ledger = ledger(run, Ids::Rising);
+    let mut numbers = Generator::new(run.seed);
+    let questions = (0..QUERIES).map(|place| Question::at(&mut numbers, place));
+    let questions: Vec<Question> = questions.collect();
+    measure(|| {
+        let answers = all_answers(&ledger, &questions);
+        answers.iter().map(Answer::sum).fold(0, mixed)
+    })
+}
+
+/// The answers in order, shared out among as many threads as there are processors.
+fn all_answers(ledger: &Ledger, questions: &[Question]) -> Vec<Answer> {
+    let threads = thread::available_parallelism().map_or(1, usize::from);
+    let parts = questions.chunks(questions.len().div_ceil(threads));
+    thread::scope(|scope| {
+        let spawned = parts.map(|part| {
+            scope.spawn(move || {
+                let answers = part.iter().map(|question| question.answer(ledger));
+                answers.collect::<Vec<Answer>>()
+            })
+        });
+        let spawned: Vec<_> = spawned.collect();
+        let joined = spawned.into_iter().map(|part| part.join());
+        joined
+            .flat_map(|answers| answers.expect("no query panics"))
+            .collect()
     })
 }
 
@@ -139,6 +223,13 @@ fn measure_all<Q>(questions: Vec<Q>, answer: impl Fn(&Q) -> u64) -> Measured {
     measure(|| {
         let answers = questions.iter().map(answer);
         answers.fold(0, mixed)
+    })
+}
+
+/// A sum of the timestamps of all rows, and of what was debited.
+fn balances_sum(rows: &[AccountBalance]) -> u64 {
+    rows.iter().fold(0, |sum, row| {
+        mixed(mixed(sum, row.timestamp), row.debits_posted as u64)
     })
 }
 

@@ -80,6 +80,7 @@ fn queries_find_rows() {
         queries::code_in_time(RUN),
         queries::user_data_64_with_ledger(RUN),
         queries::ledger_with_code(RUN),
+        queries::all(RUN),
         queries::look_up(RUN, Ids::Rising),
         queries::look_up(RUN, Ids::Random),
     ];

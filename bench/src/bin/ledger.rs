@@ -30,7 +30,7 @@ struct Workload {
     run: fn(Run) -> Measured,
 }
 
-const WORKLOADS: [Workload; 18] = [
+const WORKLOADS: [Workload; 19] = [
     Workload {
         name: "ingest_rising",
         text: "transfers with rising ids stored",
@@ -95,13 +95,13 @@ const WORKLOADS: [Workload; 18] = [
         name: "query_account_10",
         text: "the first 10 transfers of an account",
         calls: Some(queries::QUERIES),
-        run: |run| queries::account_first(run, 10),
+        run: |run| queries::account_first(run, queries::SHORT),
     },
     Workload {
         name: "query_account_200_back",
         text: "the last 200 transfers of an account, the latest first",
         calls: Some(queries::QUERIES),
-        run: |run| queries::account_last(run, 200),
+        run: |run| queries::account_last(run, queries::LONG),
     },
     Workload {
         name: "query_code_in_time",
@@ -125,7 +125,13 @@ const WORKLOADS: [Workload; 18] = [
         name: "query_balances_200",
         text: "the first 200 balances of an account",
         calls: Some(queries::QUERIES),
-        run: |run| queries::balances(run, 200),
+        run: |run| queries::balances(run, queries::LONG),
+    },
+    Workload {
+        name: "query_all",
+        text: "queries of four kinds at once, on all processors",
+        calls: Some(queries::QUERIES),
+        run: queries::all,
     },
     Workload {
         name: "look_up_rising",
