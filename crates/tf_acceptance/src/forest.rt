@@ -3,17 +3,16 @@
 //! A forest is made by a function that is generic over its rows, to which one that is generic over the rows' mutable tables
 //! and allocator hands them: a function that names all types of a forest stops at the checker's limit of steps.
 
-mod answers;
 mod commands;
-mod dice;
 mod look_ups;
-mod random;
 mod refusals;
 
 ghost use Rattle.tf_forest.specs.Nest.{AreEmpty};
 ghost use Rattle.tf_forest.specs.Parts.{parts_of};
 ghost use Rattle.tf_manifest.specs.Registries.{AreShelves};
 
+use crate::memory::AMPLE;
+use crate::random;
 use crate::rows::Row;
 use crate::rows::batches::BATCHES;
 use crate::rows::clients::CLIENTS;
@@ -22,7 +21,7 @@ use crate::rows::queries::QUERIES;
 use crate::rows::recipes::RECIPES;
 use commands::assert_commands_alike;
 use linked_list_allocator::LocalHeap;
-use refusals::{AMPLE, assert_refusals_change_nothing};
+use refusals::assert_refusals_change_nothing;
 use std::alloc::{Allocator, Global};
 use std::marker::Brand;
 use std::process::Abort;
@@ -33,7 +32,7 @@ use tf_manifest::{Naming, Registries};
 use tf_script::{Command, parse};
 
 /// The rows of a forest that lies on the global heap.
-type GlobalRows<'r, N> = Rows<'r, MutableTables<Global>, Global, N>;
+pub type GlobalRows<'r, N> = Rows<'r, MutableTables<Global>, Global, N>;
 
 /// The rows of a forest that lies on a heap of so many bytes.
 type HeapRows<'r, 'h, N> = Rows<'r, MutableTables<&'h LocalHeap>, &'h LocalHeap, N>;
@@ -170,7 +169,7 @@ fn assert_random_refused<'h, N: Naming>(
 ) -> Result<(), Fail>
     requires { AreShelves N.shelf registries.now }
 {
-    for seed in 200..204 {
+    for seed in 200..212 {
         let commands = random::commands(rt.alloc(), seed, 12)?;
         let refusals = assert_refused_from_nothing::<N>(rt, heap, registries, commands.as_slice())?;
         assert!(rt; refusals > 20);

@@ -7,6 +7,7 @@ pub mod queries;
 pub mod recipes;
 
 /// A script, and what running it over an empty ledger writes.
+#[derive(Clone, Copy)]
 pub struct Row {
     /// What the row shows.
     pub name: &'static str,

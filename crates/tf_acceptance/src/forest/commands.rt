@@ -1,8 +1,8 @@
 //! Commands on two ledgers, which answer alike.
 ghost use Rattle.tf_journal.specs.Lawful.{IsLawfulAt};
 
-use super::answers::run;
 use super::look_ups::{assert_alike, assert_all_alike};
+use crate::answers::run;
 use std::alloc::Allocator;
 use std::process::Abort;
 use tf_journal::Ledger;

@@ -1,37 +1,18 @@
 //! Requests for memory that are refused in turn.
 ghost use Rattle.tf_journal.specs.Lawful.{IsLawfulAt};
 
-use super::answers::{Answer, run};
 use super::look_ups::{assert_alike, assert_all_alike};
+use crate::answers::{Answer, run};
+use crate::memory::{AMPLE, all_but};
 use linked_list_allocator::LocalHeap;
-use std::alloc::{Allocator, Global};
+use std::alloc::Allocator;
 use std::process::Abort;
 use std::test::Fail;
 use tf_journal::Ledger;
-use tf_records::Refusal;
 use tf_script::Command;
-
-/// Bytes of a heap on which everything has room.
-pub const AMPLE: usize = 1 << 20;
 
 /// How many bytes more are free at each further try.
 const STEP: usize = 48;
-
-/// What was taken of a heap.
-type Taken<'h> = Vec<Vec<u8, &'h LocalHeap>, Global>;
-
-/// Takes all of a heap but a hole of so many bytes.
-fn all_but<'h>(alloc: Global, heap: &'h LocalHeap, room: usize) -> Result<Taken<'h>, Refusal> {
-    let hole = Vec::<u8, _>::with_capacity(heap, room)?;
-    let mut taken = Vec::new(alloc);
-    for turn in 0..68usize {
-        if let Ok(block) = Vec::<u8, _>::with_capacity(heap, AMPLE >> (turn / 4)) {
-            taken.push(block)?;
-        }
-    }
-    drop(hole);
-    Ok(taken)
-}
 
 /// Runs a command on the forest, whose heap has hardly any room at first and then more and more, until it isn't refused
 /// any more. After each refusal all look-ups are those of the plain ledger, which didn't run it.

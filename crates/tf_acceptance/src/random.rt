@@ -1,7 +1,7 @@
 //! Batches and pulses that meet: few accounts, and few transfer ids, of which many are used.
 ghost use Rattle.std.specs.Prelude.{◌<◌, length};
 
-use super::dice::Dice;
+use crate::dice::Dice;
 use std::alloc::Global;
 use tf_records::{Account, Refusal, Transfer};
 use tf_script::Command;
@@ -83,7 +83,7 @@ const IDS: u32 = 100;
 const PENDING_IDS: u32 = 12;
 
 /// A transfer event between two accounts of seven, of which the last is seldom there.
-fn transfer_event(dice: &mut Dice, id: u32) -> Transfer {
+pub fn transfer_event(dice: &mut Dice, id: u32) -> Transfer {
     let debit = dice.below(7);
     let credit = (debit + 1 + dice.below(6)) % 7;
     Transfer {
@@ -300,7 +300,7 @@ fn any_command(alloc: Global, dice: &mut Dice, now: u64) -> Result<Command<Globa
 }
 
 /// Six accounts that most transfers are between, two of them with limits and two with history.
-fn first_accounts(alloc: Global) -> Result<Command<Global>, Refusal> {
+pub fn first_accounts(alloc: Global) -> Result<Command<Global>, Refusal> {
     let kinds = [
         0,
         0,

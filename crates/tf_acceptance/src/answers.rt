@@ -1,4 +1,5 @@
 //! Batches and pulses of a script, run on any ledger, and what they answer.
+ghost use Rattle.std.specs.Prelude.{◌≡◌, length};
 ghost use Rattle.tf_journal.specs.Lawful.{IsLawfulAt};
 
 use std::alloc::Allocator;
@@ -60,7 +61,8 @@ pub fn run<L: Ledger, A: Allocator + Drop, B: Allocator>(
     command: &Command<B>,
 ) -> Answer<A>
     requires { IsLawfulAt (L.clock ledger.old) (L.journal ledger.old) }
-    ensures { IsLawfulAt (L.clock ledger.new) (L.journal ledger.new) }
+    ensures lawful { IsLawfulAt (L.clock ledger.new) (L.journal ledger.new) }
+    ensures kept { L.kept ledger.old ≡ length (L.journal ledger.old) → L.kept ledger.new ≡ length (L.journal ledger.new) }
 {
     match command {
         Command::Accounts { now, events } => {

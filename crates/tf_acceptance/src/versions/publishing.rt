@@ -1,0 +1,81 @@
+//! Forests that are published after each command.
+ghost use Rattle.tf_acceptance.specs.Rest.{IsAtRest};
+ghost use Rattle.tf_journal.specs.Lawful.{IsLawful, IsLawfulAt};
+ghost use Rattle.tf_manifest.specs.View.{ShowsJournal};
+ghost use Rattle.tf_query.specs.Version.{ShowsLawfulJournal};
+
+use super::asking::assert_answer;
+use crate::answers::run;
+use std::alloc::{Allocator, Global};
+use std::process::Abort;
+use std::sync::Wait;
+use std::test::Fail;
+use tf_forest::{Forest, Rows, SealRows};
+use tf_journal::{Ledger, PlainLedger};
+use tf_manifest::{Manifest, Naming};
+use tf_query::{Version, manifests_spell_their_journal};
+use tf_script::Command;
+
+/// A forest that can be published.
+pub type Sealing<'r, F, A, N> = Forest<Rows<'r, F, A, N>, A>;
+
+/// The sealed tables of a forest that was just published.
+fn shown<'f, 'r, F: SealRows<A> + Drop, A: Allocator + Copy, N: Naming>(
+    forest: &'f Sealing<'r, F, A, N>,
+) -> &'f Manifest<'r, A, N>
+    requires lawful { IsLawful forest.now.journal }
+    requires shows { ShowsJournal forest.now.sealed.tables forest.now.journal }
+    ensures { ShowsLawfulJournal result.now }
+{
+    manifests_spell_their_journal();
+    forest.rows().published.manifest()
+}
+
+/// Publishes a forest, and gives a version of it.
+pub fn publish<'r, F: SealRows<A> + Drop, A: Allocator + Copy, N: Naming>(
+    rt: &impl Wait,
+    forest: &mut Sealing<'r, F, A, N>,
+) -> Result<Version<'r, A, N>, Fail>
+    requires { IsAtRest forest.old.journal forest.old.clock forest.old.kept }
+    ensures { IsAtRest forest.new.journal forest.new.clock forest.new.kept }
+{
+    forest.publish(rt)?;
+    Ok(Version::new(shown(forest)))
+}
+
+/// Publishes a forest, and brings a version of it up to date.
+pub fn publish_again<'r, F: SealRows<A> + Drop, A: Allocator + Copy, N: Naming>(
+    rt: &impl Wait,
+    forest: &mut Sealing<'r, F, A, N>,
+    version: &mut Version<'r, A, N>,
+) -> Result<(), Fail>
+    requires { IsAtRest forest.old.journal forest.old.clock forest.old.kept }
+    ensures { IsAtRest forest.new.journal forest.new.clock forest.new.kept }
+{
+    forest.publish(rt)?;
+    version.update(shown(forest));
+    Ok(())
+}
+
+/// Runs commands on a forest and on the plain ledger. After each one the forest is published, and where the command asks
+/// for rows, a version answers as the plain ledger does.
+pub fn run_published<'r, F: SealRows<A> + Drop, A: Allocator + Copy, N: Naming, B: Allocator>(
+    rt: &(impl Abort + AllocGlobal + Wait),
+    plain: &mut PlainLedger<Global>,
+    forest: &mut Sealing<'r, F, A, N>,
+    commands: &[Command<B>],
+) -> Result<(), Fail>
+    requires plain { IsLawfulAt (⟦<PlainLedger<Global> as Ledger>⟧.clock plain.old) (⟦<PlainLedger<Global> as Ledger>⟧.journal plain.old) }
+    requires forest { IsAtRest forest.old.journal forest.old.clock forest.old.kept }
+    ensures plain { IsLawfulAt (⟦<PlainLedger<Global> as Ledger>⟧.clock plain.new) (⟦<PlainLedger<Global> as Ledger>⟧.journal plain.new) }
+    ensures forest { IsAtRest forest.new.journal forest.new.clock forest.new.kept }
+{
+    for command in commands {
+        let expected = run(rt.alloc(), plain, command);
+        let answer = run(rt.alloc(), forest, command);
+        assert!(rt; answer.is_same(&expected));
+        let version = publish(rt, forest)?;
+        let _rows = assert_answer(rt, &version, plain, command);
+    }
+    Ok(())
+}
