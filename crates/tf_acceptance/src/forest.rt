@@ -7,8 +7,8 @@ mod commands;
 mod look_ups;
 mod refusals;
 
-ghost use Rattle.tf_forest.specs.Nest.{AreEmpty};
-ghost use Rattle.tf_forest.specs.Parts.{parts_of};
+ghost use Rattle.tf_rows.specs.Nest.{AreEmpty};
+ghost use Rattle.tf_rows.specs.Parts.{parts_of};
 ghost use Rattle.tf_manifest.specs.Registries.{AreShelves};
 
 use crate::memory::AMPLE;
@@ -26,9 +26,11 @@ use std::alloc::{Allocator, Global};
 use std::marker::Brand;
 use std::process::Abort;
 use std::test::Fail;
-use tf_forest::{AllRows, Forest, MutableRows, MutableTables, Rows};
+use tf_forest::Forest;
 use tf_journal::PlainLedger;
 use tf_manifest::{Naming, Registries};
+use tf_publish::Rows;
+use tf_rows::{AllRows, MutableRows, MutableTables};
 use tf_script::{Command, parse};
 
 /// The rows of a forest that lies on the global heap.

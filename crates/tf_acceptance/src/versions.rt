@@ -14,8 +14,8 @@ mod scripts;
 mod stays;
 
 ghost use Rattle.tf_acceptance.specs.Rest.{IsAtRest};
-ghost use Rattle.tf_forest.specs.Nest.{AreEmpty};
-ghost use Rattle.tf_forest.specs.Parts.{parts_of};
+ghost use Rattle.tf_rows.specs.Nest.{AreEmpty};
+ghost use Rattle.tf_rows.specs.Parts.{parts_of};
 ghost use Rattle.tf_manifest.specs.Registries.{AreShelves};
 
 use crate::forest::GlobalRows;
@@ -32,8 +32,10 @@ use std::process::Abort;
 use std::sync::Wait;
 use std::test::Fail;
 use std::thread::Threads;
-use tf_forest::{Forest, Rows, SealRows};
+use tf_forest::Forest;
 use tf_manifest::{Naming, Pushes, Registries};
+use tf_publish::Rows;
+use tf_rows::SealRows;
 
 /// What is tried of the versions of an empty forest.
 #[derive(Clone, Copy)]

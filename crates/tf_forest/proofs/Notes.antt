@@ -7,8 +7,8 @@ use Rattle.tf_journal.specs.declared.entry.Entry.{Entry}
 use Rattle.tf_journal.specs.Lawful.{IsSound}
 use Rattle.tf_journal.specs.Ledger.{CanGrow}
 use Rattle.tf_journal.specs.Journal.{IsJournal, IsRisingFrom, IsUpTo, last_timestamp, timestamp_of}
-use Rattle.tf_forest.specs.declared.floors.Floors.{Floors}
-use Rattle.tf_forest.specs.declared.found.Party.{Party}
+use Rattle.tf_rows.specs.declared.floors.Floors.{Floors}
+use Rattle.tf_rows.specs.declared.found.Party.{Party}
 use Rattle.tf_table.specs.declared.key.Key.{Key}
 use Rattle.tf_table.specs.Content.{entry_at}
 use Rattle.tf_manifest.specs.declared.row.Row.{Row}
@@ -16,14 +16,15 @@ use Rattle.tf_manifest.specs.declared.row.Row.TheVariants as row
 use Rattle.tf_manifest.specs.declared.value.Value.{Value}
 use Rattle.tf_manifest.specs.Shows.{Shows, value_of}
 use Rattle.tf_journal.proofs.Sound.{sound_nothing, sound_push}
-use Rattle.tf_forest.specs.Changes.{CanStepAll, all_stepped}
-use Rattle.tf_forest.specs.Edits.{party_of}
-use Rattle.tf_forest.specs.Floors.{HaveFloors}
-use Rattle.tf_forest.specs.Forest.{AreRight, IsCut, IsForest, Noted, ShowTheirJournal, TakesBack, all_undone, journal_in}
-use Rattle.tf_forest.specs.Nest.{AreEmpty, LogsHaveValues}
-use Rattle.tf_forest.specs.Next.{content_in}
-use Rattle.tf_forest.specs.Parts.{Part, Parts, value_of_part}
-use Rattle.tf_forest.specs.Resident.{Accounts, AreAmong, accounts_before}
+use Rattle.tf_rows.specs.Changes.{CanStepAll, all_stepped}
+use Rattle.tf_rows.specs.Edits.{party_of}
+use Rattle.tf_rows.specs.Floors.{HaveFloors}
+use Rattle.tf_forest.specs.Forest.{AreRight, IsCut, IsForest, Noted, TakesBack, all_undone}
+use Rattle.tf_rows.specs.Spelled.{ShowTheirJournal, journal_in}
+use Rattle.tf_rows.specs.Nest.{AreEmpty, LogsHaveValues}
+use Rattle.tf_rows.specs.Next.{content_in}
+use Rattle.tf_rows.specs.Parts.{Part, Parts, value_of_part}
+use Rattle.tf_rows.specs.Resident.{Accounts, AreAmong, accounts_before}
 
 all_undone-last : (notes : List Noted) (note : Noted) (rows : Parts) → all_undone (notes ++ note ∷ []) rows ≡ all_undone notes (all_stepped note.steps rows)
 all_undone-last [] note rows = refl

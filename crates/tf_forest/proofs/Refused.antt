@@ -7,15 +7,16 @@ use Rattle.tf_manifest.specs.declared.row.Row.{Row}
 use Rattle.tf_manifest.specs.Limit.{Pushed}
 use Rattle.tf_manifest.specs.Shows.{Shows}
 use Rattle.tf_manifest.specs.View.{ShowsJournal, View as Tables}
-use Rattle.tf_forest.specs.Counts.{Loses, Sealed}
-use Rattle.tf_forest.specs.Forest.{View, journal_in}
-use Rattle.tf_forest.specs.Nest.{LogsHaveValues}
-use Rattle.tf_forest.specs.Next.{content_in}
-use Rattle.tf_forest.specs.Parts.{Entries, Part, parts_of, value_of_part}
-use Rattle.tf_forest.specs.Publish.{entries_waiting, tables_needed}
+use Rattle.tf_rows.specs.Counts.{Loses, Sealed}
+use Rattle.tf_forest.specs.Forest.{View}
+use Rattle.tf_rows.specs.Spelled.{journal_in}
+use Rattle.tf_rows.specs.Nest.{LogsHaveValues}
+use Rattle.tf_rows.specs.Next.{content_in}
+use Rattle.tf_rows.specs.Parts.{Entries, Part, parts_of, value_of_part}
+use Rattle.tf_publish.specs.Publish.{entries_waiting, tables_needed}
 use Rattle.tf_forest.specs.Unpublished.{IsUnpublished}
-use Rattle.tf_forest.proofs.PublishRows.{no_tombstone, parts_apart}
-use Rattle.tf_forest.proofs.Sealed.{found_sealed}
+use Rattle.tf_publish.proofs.PublishRows.{no_tombstone, parts_apart}
+use Rattle.tf_publish.proofs.Sealed.{found_sealed}
 
 module _ (fresh after : Entries) (old new : Sealed) (most : ℕ) (same : after ≡ fresh) (loses : Loses old new most) where
   tables : new.tables ≡ record old.tables { pushed = new.tables.pushed }

@@ -1,39 +1,20 @@
--- The journal that rows spell, and the notes that take its last entries back.
+-- The notes that take the last entries of the journal that rows spell back.
 use Rattle.std.specs.Prelude.{◌≡◌, ◌+◌, ℕ, List, [], ◌∷◌, ◌++◌, length, take, ⊤, Bool}
 use Rattle.tf_journal.specs.declared.entry.Entry.{Entry}
 use Rattle.tf_journal.specs.Journal.{IsUpTo}
-use Rattle.tf_journal.specs.Lawful.{IsSound}
-use Rattle.tf_table.specs.Content.{content_of}
 use Rattle.tf_manifest.specs.declared.row.Row.{Row}
 use Rattle.tf_manifest.specs.declared.value.Value.{Value}
-use Rattle.tf_manifest.specs.Rows.{Pair}
-use Rattle.tf_manifest.specs.Shows.{Shows, journal_of}
-use Rattle.tf_forest.specs.declared.change.Step.{Step}
-use Rattle.tf_forest.specs.declared.floors.Floors.{Floors}
-use Rattle.tf_forest.specs.declared.former.Formers.{Formers}
-use Rattle.tf_forest.specs.declared.found.Party.{Party}
-use Rattle.tf_forest.specs.Changes.{CanStepAll, all_stepped}
-use Rattle.tf_forest.specs.Edits.{party_of}
-use Rattle.tf_forest.specs.Counts.{Sealed}
-use Rattle.tf_forest.specs.Floors.{HaveFloors}
-use Rattle.tf_forest.specs.Nest.{LogsHaveValues}
-use Rattle.tf_forest.specs.Next.{content_in}
-use Rattle.tf_forest.specs.Parts.{Parts}
-use Rattle.tf_forest.specs.Resident.{AreAmong, accounts_before}
-
--- the pairs of rows: their keys that have values, in order
-abbrev pub pairs_in : Parts → Row → List Pair
-pairs_in rows r = content_of ((rows r).fresh ∷ (rows r).below)
-
--- the journal that rows spell
-abbrev pub journal_in : Parts → List Entry
-journal_in rows = journal_of (pairs_in rows)
-
--- rows show the journal that they spell, which is sound; and no log has a tombstone
-pub record ShowTheirJournal (rows : Parts) : Type 0 where
-  pub sound : IsSound (journal_in rows)
-  pub shows : Shows (content_in rows) (journal_in rows)
-  pub values : LogsHaveValues rows
+use Rattle.tf_rows.specs.declared.change.Step.{Step}
+use Rattle.tf_rows.specs.declared.floors.Floors.{Floors}
+use Rattle.tf_rows.specs.declared.former.Formers.{Formers}
+use Rattle.tf_rows.specs.declared.found.Party.{Party}
+use Rattle.tf_rows.specs.Changes.{CanStepAll, all_stepped}
+use Rattle.tf_rows.specs.Edits.{party_of}
+use Rattle.tf_rows.specs.Counts.{Sealed}
+use Rattle.tf_rows.specs.Floors.{HaveFloors}
+use Rattle.tf_rows.specs.Parts.{Parts}
+use Rattle.tf_rows.specs.Resident.{AreAmong, accounts_before}
+use Rattle.tf_rows.specs.Spelled.{ShowTheirJournal, journal_in}
 
 -- what takes an entry back: the steps in the rows, and the accounts that it changed as they were
 pub record Noted : Type 0 where

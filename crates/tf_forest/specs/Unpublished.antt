@@ -1,6 +1,6 @@
 -- What a publish that isn't settled leaves.
 use Rattle.std.specs.Prelude.{◌≡◌}
-use Rattle.tf_forest.specs.Counts.{Loses}
+use Rattle.tf_rows.specs.Counts.{Loses}
 use Rattle.tf_forest.specs.Forest.{View}
 
 -- everything is as it was, but that some of the tables that were needed were pushed, and stay counted

@@ -8,10 +8,12 @@ ghost use Rattle.tf_manifest.specs.View.{content_in, references_in, tables_by};
 ghost use Rattle.tf_manifest.specs.declared.row.Row.{Row};
 ghost use Rattle.tf_table.specs.declared.key.Key.{Key};
 
-use crate::{Forest, MutableRows, Rows, rows_spell_the_journal_they_show};
+use crate::Forest;
 use std::alloc::Allocator;
 use std::sync::Wait;
 use tf_manifest::{Job, Merged, Naming, Row, Uninstalled};
+use tf_publish::Rows;
+use tf_rows::{MutableRows, rows_spell_the_journal_they_show};
 
 impl<'r, F: MutableRows + Drop, A: Allocator + Copy, N: Naming> Forest<Rows<'r, F, A, N>, A> {
     /// The run of a row to merge next, as `Manifest::pick` has it. It takes no memory.

@@ -1,70 +1,11 @@
-//! What is due: pending transfers whose time is over, by the keys of expiry.
-ghost use Rattle.std.specs.Prelude.{◌≡◌, ◌≤◌, length, min, IsTrue, IfSome};
-ghost use Rattle.tf_forest.specs.Due.{first_due_from};
-ghost use Rattle.tf_forest.specs.Floors.{IsFloor};
-ghost use Rattle.tf_forest.specs.Forest.{ShowTheirJournal, journal_in, pairs_in};
+//! What is due of a forest: pending transfers whose time is over.
+ghost use Rattle.std.specs.Prelude.{◌≡◌, length, min};
 ghost use Rattle.tf_journal.specs.Due.{due, next_due_of};
-ghost use Rattle.tf_journal.specs.Journal.{last_timestamp};
-ghost use Rattle.tf_manifest.specs.declared.row.Row.{Row};
 
-use crate::look_ups::transfer_at;
-use crate::{AllRows, Forest, RowSet, rows_tell_what_is_due};
+use crate::Forest;
 use std::alloc::Allocator;
-use tf_manifest::{Row, Value};
 use tf_records::Transfer;
-use tf_table::{Key, content_is_a_map};
-
-/// The first key of expiry, from this one on, that is due at a moment.
-fn first_due<S: RowSet>(rows: &S, from: &Key, at: u64) -> Option<Key>
-    requires has { (r : Row) → IsTrue (S.has_row r) }
-    requires shows { ShowTheirJournal (S.parts rows.now) }
-    ensures first { result ≡ first_due_from at from.now (pairs_in (S.parts rows.now) Row.Expiry) }
-    ensures in_range { IfSome result (λ key. key.timestamp ≤ last_timestamp) }
-{
-    content_is_a_map::<Value>();
-    rows_tell_what_is_due();
-    let key = rows.first_from(Row::Expiry, from)?;
-    if key.value > at as u128 {
-        return None;
-    }
-    Some(key)
-}
-
-/// The next transfer to expire at a moment, looked for from a key on below which there is none.
-fn next_due<S: RowSet>(rows: &S, floor: Key, at: u64) -> Option<Transfer>
-    requires has { (r : Row) → IsTrue (S.has_row r) }
-    requires shows { ShowTheirJournal (S.parts rows.now) }
-    requires floor { IsFloor floor (journal_in (S.parts rows.now)) }
-    ensures { result ≡ next_due_of (journal_in (S.parts rows.now)) at }
-{
-    content_is_a_map::<Value>();
-    rows_tell_what_is_due();
-    let key = first_due(rows, &floor, at)?;
-    transfer_at(rows, key.timestamp)
-}
-
-/// How many transfers are due at a moment, or `most` if there are more: by a walk over their keys, from one on below
-/// which there is none.
-fn due_count<S: RowSet>(rows: &S, floor: Key, at: u64, most: u32) -> u32
-    requires has { (r : Row) → IsTrue (S.has_row r) }
-    requires shows { ShowTheirJournal (S.parts rows.now) }
-    requires floor { IsFloor floor (journal_in (S.parts rows.now)) }
-    ensures { result ≡ min most (length (due (journal_in (S.parts rows.now)) at)) }
-{
-    content_is_a_map::<Value>();
-    rows_tell_what_is_due();
-    let mut from = floor;
-    for count in 0..most {
-        let Some(key) = first_due(rows, &from, at) else {
-            return count;
-        };
-        from = Key {
-            value: key.value,
-            timestamp: key.timestamp + 1,
-        };
-    }
-    most
-}
+use tf_rows::{AllRows, due_count, next_due};
 
 impl<S: AllRows + Drop, A: Allocator + Copy> Forest<S, A> {
     /// The next pending transfer to expire: of those that are open, have a timeout and whose time is over at this moment,

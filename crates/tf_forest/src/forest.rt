@@ -1,10 +1,10 @@
 //! The ledger whose journal its rows spell.
 ghost use Rattle.std.specs.Prelude.{◌≡◌, ◌≤◌, [], length, take, OnErr};
-ghost use Rattle.tf_forest.specs.Floors.{IsFloor};
-ghost use Rattle.tf_forest.specs.Forest.{ShowTheirJournal, journal_in};
-ghost use Rattle.tf_forest.specs.Nest.{AreEmpty};
-ghost use Rattle.tf_forest.specs.Parts.{fresh_in};
-ghost use Rattle.tf_forest.specs.Publish.{entries_waiting, tables_needed};
+ghost use Rattle.tf_rows.specs.Floors.{IsFloor};
+ghost use Rattle.tf_rows.specs.Spelled.{ShowTheirJournal, journal_in};
+ghost use Rattle.tf_rows.specs.Nest.{AreEmpty};
+ghost use Rattle.tf_rows.specs.Parts.{fresh_in};
+ghost use Rattle.tf_publish.specs.Publish.{entries_waiting, tables_needed};
 ghost use Rattle.tf_journal.specs.declared.entry.Entry.{Entry};
 ghost use Rattle.tf_journal.specs.Journal.{IsUpTo, is_failed};
 ghost use Rattle.tf_journal.specs.Laws.{IsWithinLimits};
@@ -13,21 +13,17 @@ ghost use Rattle.tf_journal.specs.Ledger.{CanGrow, IsAddition};
 ghost use Rattle.tf_journal.specs.Lookup.{id_use_of, shown_with_id, transfer_with_id};
 ghost use Rattle.tf_journal.specs.Status.{status_at};
 
-use crate::floors::Floors;
-use crate::former::formers_of;
-use crate::found::look_up;
-use crate::look_ups::shown;
 use crate::note::{Note, make_room, note_down, undo_to};
-use crate::resident::Resident;
-use crate::{
-    AllRows, account, add_entry, entries_leave_sums_in_range, id_use, next_entry_can_be_added,
-    rows_answer_look_ups, rows_spell_the_journal_they_show, status, transfer,
-};
 use std::alloc::Allocator;
 use std::marker::Model;
 use tf_journal::{Entry, IdUse, Mark, Status, ids_are_unique, journals_are_within_limits};
 use tf_manifest::Row;
 use tf_records::{Account, Refusal, TIMESTAMP_MAX, Transfer};
+use tf_rows::{
+    AllRows, Floors, Resident, account, add_entry, entries_leave_sums_in_range, formers_of, id_use,
+    look_up, next_entry_can_be_added, rows_answer_look_ups, rows_spell_the_journal_they_show,
+    shown, status, transfer,
+};
 use tf_table::Key;
 
 /// A ledger over 21 rows, with a note for each entry that isn't kept.
@@ -53,9 +49,10 @@ impl<S: AllRows + Drop, A: Allocator + Copy> Model for Forest<S, A> {
 
     ghost Value = { View };
 
-    ghost use Rattle.tf_forest.specs.Forest.{IsForest, journal_in};
-    ghost use Rattle.tf_forest.specs.Parts.{fresh_in};
-    ghost use Rattle.tf_forest.specs.Publish.{entries_waiting, tables_needed};
+    ghost use Rattle.tf_forest.specs.Forest.{IsForest};
+    ghost use Rattle.tf_rows.specs.Spelled.{journal_in};
+    ghost use Rattle.tf_rows.specs.Parts.{fresh_in};
+    ghost use Rattle.tf_publish.specs.Publish.{entries_waiting, tables_needed};
 
     ghost view = { λ f. record { journal = journal_in (S.parts f.rows); sealed = S.sealed f.rows; needed = tables_needed (fresh_in (S.parts f.rows)) (S.sealed f.rows).tables; waiting = entries_waiting (fresh_in (S.parts f.rows)); clock = f.clock; kept = f.kept } };
 

@@ -1,8 +1,9 @@
 //! The forest as a ledger: what adds entries to it judges them by the same calls as over any other.
-use crate::{AllRows, Forest};
+use crate::Forest;
 use std::alloc::Allocator;
 use tf_journal::{IdUse, Ledger, Mark, Status};
 use tf_records::{Account, Refusal, Transfer};
+use tf_rows::AllRows;
 
 impl<S: AllRows + Drop, A: Allocator + Copy> Ledger for Forest<S, A> {
     ghost journal = { λ forest. forest.journal };

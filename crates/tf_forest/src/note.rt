@@ -1,16 +1,15 @@
 //! Notes that take the last entries of rows back.
 ghost use Rattle.std.specs.Prelude.{◌≡◌, ◌<◌, ◌≤◌, ◌-◌, ◌∷◌, ◌++◌, [], length, vec_capacity, vec_len, OnOk, IfErr};
-ghost use Rattle.tf_forest.specs.Changes.{CanStepAll, all_stepped};
-ghost use Rattle.tf_forest.specs.Edits.{party_of};
-ghost use Rattle.tf_forest.specs.Forest.{AreRight, IsCut, ShowTheirJournal, journal_in};
-ghost use Rattle.tf_forest.specs.Resident.{Accounts, AreAmong, accounts_before};
+ghost use Rattle.tf_rows.specs.Changes.{CanStepAll, all_stepped};
+ghost use Rattle.tf_rows.specs.Edits.{party_of};
+ghost use Rattle.tf_forest.specs.Forest.{AreRight, IsCut};
+ghost use Rattle.tf_rows.specs.Spelled.{ShowTheirJournal, journal_in};
+ghost use Rattle.tf_rows.specs.Resident.{Accounts, AreAmong, accounts_before};
 
-use crate::former::Formers;
-use crate::resident::Resident;
-use crate::{RowSet, Step, take_steps};
 use std::alloc::Allocator;
 use std::marker::Model;
 use tf_records::Refusal;
+use tf_rows::{Formers, Resident, RowSet, Step, take_steps};
 
 /// What takes one entry back: steps in the rows, and the accounts that it changed as they were.
 #[derive(Drop)]

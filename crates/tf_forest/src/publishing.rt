@@ -1,63 +1,21 @@
 //! Publishing a forest.
 ghost use Rattle.std.specs.Prelude.{◌≡◌, ◌≢◌, ◌+◌, ◌<◌, ◌≤◌, ◌==◌, false, length, Err, OnErr, OnOk, IfOk, IfErr, IsTrue, if◌then◌else◌};
-ghost use Rattle.tf_forest.specs.Counts.{AreBounded, IsReady, Loses, settled};
-ghost use Rattle.tf_forest.specs.Parts.{parts_of, value_of_part};
-ghost use Rattle.tf_forest.specs.Publish.{entries_waiting, tables_needed};
+ghost use Rattle.tf_rows.specs.Counts.{AreBounded, IsReady, Loses, settled};
+ghost use Rattle.tf_rows.specs.Parts.{parts_of, value_of_part};
+ghost use Rattle.tf_publish.specs.Publish.{entries_waiting, tables_needed};
 ghost use Rattle.tf_forest.specs.Unpublished.{IsUnpublished};
 ghost use Rattle.tf_manifest.specs.View.{ShowsJournal, content_in};
 ghost use Rattle.tf_manifest.specs.declared.row.Row.{Row};
 ghost use Rattle.tf_table.specs.declared.key.Key.{Key};
 ghost use Rattle.tf_records.specs.declared.refusal.Refusal.{Refusal};
 
-use crate::pushing::{push_rows, tables_needed};
-use crate::{
-    Counts, Forest, MutableRows, Prepared, Rows, SealRows, rows_spell_the_journal_they_show,
-};
+use crate::Forest;
 use std::alloc::Allocator;
 use std::sync::Wait;
 use tf_manifest::Naming;
+use tf_publish::{Prepared, Rows, has_room, prepare_rows};
 use tf_records::Refusal;
-
-/// Whether the tables that a publish pushes fit under the limit.
-fn has_room<'r, F: SealRows<A> + Drop, A: Allocator + Copy, N: Naming>(
-    rows: &Rows<'r, F, A, N>,
-) -> bool
-    ensures fits { IsTrue result → rows.now.published.tables.pushed.count + tables_needed (F.entries rows.now.fresh) rows.now.published.tables ≤ rows.now.published.tables.pushed.limit }
-    ensures full { result ≡ false → rows.now.published.tables.pushed.limit < rows.now.published.tables.pushed.count + tables_needed (F.entries rows.now.fresh) rows.now.published.tables }
-{
-    let manifest = rows.published.manifest();
-    manifest.limit() - manifest.pushed() >= tables_needed(&rows.fresh, manifest)
-}
-
-/// Seals each mutable table that has an entry, and puts it in front of its row's sealed tables in a copy of these. Where a
-/// row is full, its run that is to be merged next is merged in the copy first.
-///
-/// The only refusal is `NoMemory`. Whatever it answers, the rows have what they had, and what was pushed is counted, all its
-/// entries as sealed and as held.
-fn prepare_rows<'r, R: Wait, F: SealRows<A> + Drop, A: Allocator + Copy, N: Naming>(
-    rt: &R,
-    rows: &mut Rows<'r, F, A, N>,
-    alloc: A,
-) -> Result<Prepared<'r, A, N>, Refusal>
-    requires { rows.old.published.tables.pushed.count + tables_needed (F.entries rows.old.fresh) rows.old.published.tables ≤ rows.old.published.tables.pushed.limit }
-    ensures content { IfOk result (λ p. (r : Row) (key : Key) → content_in p.tables r key ≡ value_of_part (parts_of (F.entries rows.old.fresh) rows.old.published.tables r) key) }
-    ensures count { IfOk result (λ p. p.tables.pushed.count ≡ rows.old.published.tables.pushed.count + tables_needed (F.entries rows.old.fresh) rows.old.published.tables) }
-    ensures sealed { IfOk result (λ p. p.sealed ≡ rows.old.published.counts.rows_sealed + entries_waiting (F.entries rows.old.fresh)) }
-    ensures ready { IfOk result (IsReady rows.new.published) }
-    ensures fresh { F.entries rows.new.fresh ≡ F.entries rows.old.fresh }
-    ensures loses { Loses rows.old.published rows.new.published (tables_needed (F.entries rows.old.fresh) rows.old.published.tables) }
-    ensures refusal { IfErr result (λ refusal. refusal ≡ Refusal.NoMemory) }
-{
-    // Only the count tells what it bounds.
-    let _publishes = rows.published.publishes();
-    let mut next = rows.published.copy();
-    let answer = push_rows(rt, &mut rows.fresh, alloc, &mut next);
-    rows.published.count_pushed(&next);
-    match answer {
-        Ok(()) => Ok(Prepared::new(next)),
-        Err(refusal) => Err(refusal),
-    }
-}
+use tf_rows::{Counts, MutableRows, SealRows, rows_spell_the_journal_they_show};
 
 impl<'r, F: SealRows<A> + Drop, A: Allocator + Copy, N: Naming> Forest<Rows<'r, F, A, N>, A> {
     /// The first half of a publish: seals each mutable table that has an entry and puts it in front of its row's sealed

@@ -11,9 +11,9 @@ use std::alloc::{Allocator, Global};
 use std::process::Abort;
 use std::sync::Wait;
 use std::test::Fail;
-use tf_forest::SealRows;
 use tf_manifest::{Naming, Row};
 use tf_records::{Refusal, Transfer};
+use tf_rows::SealRows;
 use tf_script::Command;
 
 /// No row of a forest has more than 64 tables, and what was counted is within its bounds.

@@ -11,9 +11,9 @@ use std::alloc::Allocator;
 use std::process::Abort;
 use std::sync::Wait;
 use std::test::Fail;
-use tf_forest::SealRows;
 use tf_journal::PlainLedger;
 use tf_manifest::Naming;
+use tf_rows::SealRows;
 
 /// Versions of a random journal answer random queries and look-ups as the plain ledger does, before merges, after some in
 /// any order, and after all.

@@ -12,12 +12,12 @@ use std::process::Abort;
 use std::sync::Wait;
 use std::test::Fail;
 use std::thread::Threads;
-use tf_forest::SealRows;
 use tf_journal::PlainLedger;
 use tf_manifest::Naming;
 use tf_query::Version;
 use tf_query_all::{Filter, query_all};
 use tf_records::Refusal;
+use tf_rows::SealRows;
 use tf_script::{Command, Query};
 
 /// The filter of a query.

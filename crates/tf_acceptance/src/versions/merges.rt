@@ -6,9 +6,9 @@ use crate::dice::Dice;
 use std::alloc::{Allocator, Global};
 use std::sync::Wait;
 use std::test::Fail;
-use tf_forest::SealRows;
 use tf_manifest::{Naming, Row};
 use tf_records::Refusal;
+use tf_rows::SealRows;
 
 /// Merges the next run of each of these rows, in their order. Tells how many had one.
 pub fn merge_each<'r, F: SealRows<A> + Drop, A: Allocator + Copy, N: Naming>(

@@ -10,10 +10,12 @@ use std::alloc::{Allocator, Global};
 use std::process::Abort;
 use std::sync::Wait;
 use std::test::Fail;
-use tf_forest::{Forest, Rows, SealRows};
+use tf_forest::Forest;
 use tf_journal::{Ledger, PlainLedger};
 use tf_manifest::{Manifest, Naming};
+use tf_publish::Rows;
 use tf_query::{Version, manifests_spell_their_journal};
+use tf_rows::SealRows;
 use tf_script::Command;
 
 /// A forest that can be published.

@@ -10,11 +10,11 @@ use std::alloc::{AllocError, Allocator, Global};
 use std::process::Abort;
 use std::sync::Wait;
 use std::test::Fail;
-use tf_forest::SealRows;
 use tf_journal::PlainLedger;
 use tf_manifest::Naming;
 use tf_query::Version;
 use tf_records::{AccountFilter, QueryFilter, Refusal};
+use tf_rows::SealRows;
 use tf_script::{Command, Query};
 
 /// A filter of the transfers of an account with history, on both sides and by two fields.

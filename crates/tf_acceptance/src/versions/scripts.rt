@@ -12,9 +12,9 @@ use std::alloc::Allocator;
 use std::process::Abort;
 use std::sync::Wait;
 use std::test::Fail;
-use tf_forest::SealRows;
 use tf_journal::PlainLedger;
 use tf_manifest::Naming;
+use tf_rows::SealRows;
 use tf_script::parse;
 
 /// How many scripts there are.

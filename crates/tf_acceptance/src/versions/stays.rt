@@ -12,10 +12,10 @@ use std::alloc::{Allocator, Global};
 use std::process::Abort;
 use std::sync::Wait;
 use std::test::Fail;
-use tf_forest::SealRows;
 use tf_journal::PlainLedger;
 use tf_manifest::Naming;
 use tf_records::{Refusal, Transfer};
+use tf_rows::SealRows;
 use tf_script::Command;
 
 /// A batch of transfers between accounts without limits, with so many ids from the first on, all of which are stored.

@@ -1,5 +1,5 @@
 use Rattle.std.proofs.Common.{rules, ◌∙◌, length}
-use Rattle.tf_forest.specs.Forest.{journal_in}
+use Rattle.tf_rows.specs.Spelled.{journal_in}
 use Rattle.tf_forest.proofs.Notes.{can_undo, one_less}
 use Rattle.tf_forest.proofs.note.undo_to.Goals as goal
 

@@ -1,5 +1,5 @@
 use Rattle.std.proofs.Common.{◌≡◌, ◌≤◌, length}
-use Rattle.tf_forest.specs.Forest.{journal_in}
+use Rattle.tf_rows.specs.Spelled.{journal_in}
 use Rattle.tf_forest.proofs.Notes.{IsUndone}
 use Rattle.tf_forest.proofs.note.undo_to.Given as goal
 

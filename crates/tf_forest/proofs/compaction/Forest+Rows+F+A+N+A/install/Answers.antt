@@ -3,11 +3,12 @@ use Rattle.std.specs.Prelude.{IfErr}
 use Rattle.tf_manifest.specs.Install.{OnStale}
 use Rattle.tf_manifest.specs.Jobs.{StandsIn, output_of}
 use Rattle.tf_manifest.specs.View.{View as Tables, content_in}
-use Rattle.tf_forest.specs.Forest.{View, journal_in}
-use Rattle.tf_forest.specs.Nest.{IsTree, fits_row, has_each}
-use Rattle.tf_forest.specs.Parts.{Parts, parts_of}
+use Rattle.tf_forest.specs.Forest.{View}
+use Rattle.tf_rows.specs.Spelled.{journal_in}
+use Rattle.tf_rows.specs.Nest.{IsTree, fits_row, has_each}
+use Rattle.tf_rows.specs.Parts.{Parts, parts_of}
 use Rattle.tf_forest.proofs.Notes.{same_forest, same_journal}
-use Rattle.tf_forest.proofs.Sealed.{same_in_front}
+use Rattle.tf_publish.proofs.Sealed.{same_in_front}
 use Rattle.tf_forest.proofs.compaction.Forest+Rows+F+A+N+A.install.Goals as goal
 
 pub invariant_of-self : goal.invariant_of-self

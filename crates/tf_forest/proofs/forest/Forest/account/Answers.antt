@@ -2,7 +2,7 @@ use Rattle.std.proofs.Common.{◌∙◌, Some, ap, sym}
 use Rattle.std.specs.Option.{option_map}
 use Rattle.tf_journal.specs.Lookup.{shown_with_id}
 use Rattle.tf_forest.specs.Forest.{View}
-use Rattle.tf_forest.specs.LookUps.{shown_party}
+use Rattle.tf_rows.specs.LookUps.{shown_party}
 use Rattle.tf_forest.proofs.forest.Forest.account.Goals as goal
 
 pub returns-in-None : goal.returns-in-None

@@ -1,17 +1,18 @@
 use Rattle.std.proofs.Common.{◌≡◌, ◌∙◌, List, [], ◌∷◌, ◌++◌, sym, ap, subst}
 use Rattle.tf_journal.specs.declared.entry.Entry.{Entry}
 use Rattle.tf_journal.specs.Ledger.{CanGrow}
-use Rattle.tf_forest.specs.Parts.{Parts, fresh_in}
-use Rattle.tf_forest.specs.declared.found.Found.{Found}
-use Rattle.tf_forest.specs.Changes.{CanChangeAll, all_changed}
-use Rattle.tf_forest.specs.Edits.{found_for}
-use Rattle.tf_forest.specs.Forest.{IsForest, Noted, View, journal_in}
-use Rattle.tf_forest.specs.Nest.{LogsHaveValues}
-use Rattle.tf_forest.specs.Publish.{entries_waiting, tables_needed}
-use Rattle.tf_forest.specs.Range.{LeavesInRange}
-use Rattle.tf_forest.specs.Counts.{Sealed}
-use Rattle.tf_forest.proofs.CanChange.{can_any}
-use Rattle.tf_forest.specs.Next.{changes, changes_by}
+use Rattle.tf_rows.specs.Parts.{Parts, fresh_in}
+use Rattle.tf_rows.specs.declared.found.Found.{Found}
+use Rattle.tf_rows.specs.Changes.{CanChangeAll, all_changed}
+use Rattle.tf_rows.specs.Edits.{found_for}
+use Rattle.tf_forest.specs.Forest.{IsForest, Noted, View}
+use Rattle.tf_rows.specs.Spelled.{journal_in}
+use Rattle.tf_rows.specs.Nest.{LogsHaveValues}
+use Rattle.tf_publish.specs.Publish.{entries_waiting, tables_needed}
+use Rattle.tf_rows.specs.Range.{LeavesInRange}
+use Rattle.tf_rows.specs.Counts.{Sealed}
+use Rattle.tf_rows.proofs.CanChange.{can_any}
+use Rattle.tf_rows.specs.Next.{changes, changes_by}
 use Rattle.tf_forest.proofs.Notes.{IsGrown, grown_forest, grown_journal}
 use Rattle.tf_forest.proofs.forest.Forest.add.Goals as goal
 

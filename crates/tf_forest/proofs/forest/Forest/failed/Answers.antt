@@ -8,9 +8,9 @@ use Rattle.tf_journal.specs.declared.id_use.IdUse.TheVariants.{Failed, Stored}
 use Rattle.tf_journal.specs.Journal.{is_failed}
 use Rattle.tf_journal.specs.Laws.{HasUniqueIds}
 use Rattle.tf_journal.specs.Lookup.{id_use_of, transfer_with_id, unstored_use}
-use Rattle.tf_forest.specs.Forest.{journal_in}
-use Rattle.tf_forest.specs.Next.{content_in}
-use Rattle.tf_forest.specs.Parts.{Parts}
+use Rattle.tf_rows.specs.Spelled.{journal_in}
+use Rattle.tf_rows.specs.Next.{content_in}
+use Rattle.tf_rows.specs.Parts.{Parts}
 use Rattle.tf_forest.proofs.forest.Forest.failed.Goals as goal
 
 abbrev says_failed : IdUse → Bool

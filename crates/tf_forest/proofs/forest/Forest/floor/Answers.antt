@@ -1,5 +1,5 @@
 use Rattle.std.proofs.Common.{ap, subst}
-use Rattle.tf_forest.specs.Floors.{IsFloor}
+use Rattle.tf_rows.specs.Floors.{IsFloor}
 use Rattle.tf_forest.specs.Forest.{View}
 use Rattle.tf_forest.proofs.forest.Forest.floor.Goals as goal
 

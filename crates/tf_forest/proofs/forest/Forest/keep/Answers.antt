@@ -2,11 +2,12 @@ use Rattle.std.proofs.Common.{◌≡◌, ◌+◌, ℕ, length, ap, subst, sym, a
 use Rattle.std.proofs.lemmas.List.{take_all}
 use Rattle.tf_journal.specs.Journal.{IsUpTo}
 use Rattle.tf_manifest.specs.declared.row.Row.TheVariants as row
-use Rattle.tf_forest.specs.Edits.{party_of}
-use Rattle.tf_forest.specs.Floors.{HaveFloors}
-use Rattle.tf_forest.specs.Forest.{View, journal_in}
-use Rattle.tf_forest.specs.Next.{content_in}
-use Rattle.tf_forest.specs.Parts.{Parts}
+use Rattle.tf_rows.specs.Edits.{party_of}
+use Rattle.tf_rows.specs.Floors.{HaveFloors}
+use Rattle.tf_forest.specs.Forest.{View}
+use Rattle.tf_rows.specs.Spelled.{journal_in}
+use Rattle.tf_rows.specs.Next.{content_in}
+use Rattle.tf_rows.specs.Parts.{Parts}
 use Rattle.tf_forest.proofs.Notes.{noted_length}
 use Rattle.tf_forest.proofs.forest.Forest.keep.Goals as goal
 

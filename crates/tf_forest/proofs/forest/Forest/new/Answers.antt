@@ -1,6 +1,6 @@
 use Rattle.std.proofs.Common.{ℕ, List, [], sym, subst}
 use Rattle.tf_forest.specs.Forest.{IsForest, Noted}
-use Rattle.tf_forest.specs.declared.found.Party.{Party}
+use Rattle.tf_rows.specs.declared.found.Party.{Party}
 use Rattle.tf_forest.proofs.Notes.{empty_forest, empty_journal}
 use Rattle.tf_forest.proofs.forest.Forest.new.Goals as goal
 

@@ -1,5 +1,5 @@
 use Rattle.std.proofs.Common.{sym, subst}
-use Rattle.tf_forest.specs.Floors.{IsFloor}
+use Rattle.tf_rows.specs.Floors.{IsFloor}
 use Rattle.tf_forest.proofs.forest.Forest.next_due.Goals as goal
 
 pub next_due-requires-clause-floor : goal.next_due-requires-clause-floor

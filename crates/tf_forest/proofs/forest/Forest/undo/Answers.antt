@@ -2,8 +2,9 @@ use Rattle.std.proofs.Common.{◌≡◌, ◌-◌, List, length, take, ap, subst,
 use Rattle.std.proofs.lemmas.List.{take-take}
 use Rattle.tf_journal.specs.declared.entry.Entry.{Entry}
 use Rattle.tf_journal.specs.Journal.{IsUpTo}
-use Rattle.tf_forest.specs.Floors.{HaveFloors}
-use Rattle.tf_forest.specs.Forest.{View, journal_in}
+use Rattle.tf_rows.specs.Floors.{HaveFloors}
+use Rattle.tf_forest.specs.Forest.{View}
+use Rattle.tf_rows.specs.Spelled.{journal_in}
 use Rattle.tf_forest.proofs.Notes.{cut_is_taken, cut_length}
 use Rattle.tf_forest.proofs.forest.Forest.undo.Goals as goal
 

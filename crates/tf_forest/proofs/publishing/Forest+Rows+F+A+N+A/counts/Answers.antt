@@ -1,5 +1,5 @@
 use Rattle.std.proofs.Common.{◌∙◌, ap, subst}
-use Rattle.tf_forest.specs.Counts.{AreBounded}
+use Rattle.tf_rows.specs.Counts.{AreBounded}
 use Rattle.tf_forest.specs.Forest.{View}
 use Rattle.tf_forest.proofs.publishing.Forest+Rows+F+A+N+A.counts.Goals as goal
 

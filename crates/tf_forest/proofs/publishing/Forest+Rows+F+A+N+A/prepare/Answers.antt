@@ -1,10 +1,11 @@
 use Rattle.std.proofs.Common.{◌≡◌, ◌+◌, List, length, refl, sym, ◌∙◌, ap, subst, Result, Ok, Err, IfOk}
 use Rattle.tf_journal.specs.declared.entry.Entry.{Entry}
-use Rattle.tf_forest.specs.Counts.{Counted, Sealed}
-use Rattle.tf_forest.specs.Forest.{View, journal_in}
-use Rattle.tf_forest.specs.Nest.{IsTree, fits_row, has_each}
-use Rattle.tf_forest.specs.Parts.{Entries, parts_of}
-use Rattle.tf_forest.specs.Publish.{tables_needed}
+use Rattle.tf_rows.specs.Counts.{Counted, Sealed}
+use Rattle.tf_forest.specs.Forest.{View}
+use Rattle.tf_rows.specs.Spelled.{journal_in}
+use Rattle.tf_rows.specs.Nest.{IsTree, fits_row, has_each}
+use Rattle.tf_rows.specs.Parts.{Entries, parts_of}
+use Rattle.tf_publish.specs.Publish.{tables_needed}
 use Rattle.tf_manifest.specs.View.{ShowsJournal}
 use Rattle.tf_forest.proofs.Notes.{same_forest, same_journal}
 use Rattle.tf_forest.proofs.Refused.{logs_stay, nothing_lost, unpublished, values_stay}

@@ -2,7 +2,7 @@ use Rattle.std.proofs.Common.{◌≡◌, ◌∙◌, ◌+◌, ℕ, cond, length, 
 use Rattle.std.specs.Prelude.{◌==◌}
 use Rattle.tf_manifest.specs.View.{ShowsJournal}
 use Rattle.tf_manifest.specs.Limit.{Pushed}
-use Rattle.tf_forest.specs.Counts.{Sealed}
+use Rattle.tf_rows.specs.Counts.{Sealed}
 use Rattle.tf_forest.specs.Forest.{View}
 use Rattle.tf_forest.proofs.publishing.Forest+Rows+F+A+N+A.publish.Goals as goal
 

@@ -1,13 +1,14 @@
 use Rattle.std.proofs.Common.{◌≡◌, ◌∙◌, ℕ, List, length, sym, ap, subst, arith}
 use Rattle.tf_journal.specs.declared.entry.Entry.{Entry}
 use Rattle.tf_manifest.specs.View.{ShowsJournal}
-use Rattle.tf_forest.specs.Counts.{IsReady, Sealed, settled}
-use Rattle.tf_forest.specs.Forest.{View, journal_in}
-use Rattle.tf_forest.specs.Nest.{IsTree, fits_row, has_each}
-use Rattle.tf_forest.specs.Parts.{Entries, parts_of}
-use Rattle.tf_forest.specs.Publish.{entries_waiting, tables_needed}
+use Rattle.tf_rows.specs.Counts.{IsReady, Sealed, settled}
+use Rattle.tf_forest.specs.Forest.{View}
+use Rattle.tf_rows.specs.Spelled.{journal_in}
+use Rattle.tf_rows.specs.Nest.{IsTree, fits_row, has_each}
+use Rattle.tf_rows.specs.Parts.{Entries, parts_of}
+use Rattle.tf_publish.specs.Publish.{entries_waiting, tables_needed}
 use Rattle.tf_forest.proofs.Notes.{same_forest, same_journal}
-use Rattle.tf_forest.proofs.PublishRows.{none_needed, none_waits}
+use Rattle.tf_publish.proofs.PublishRows.{none_needed, none_waits}
 use Rattle.tf_forest.proofs.Refused.{logs_alone, values_alone}
 use Rattle.tf_forest.proofs.publishing.Forest+Rows+F+A+N+A.settle.Goals as goal
 

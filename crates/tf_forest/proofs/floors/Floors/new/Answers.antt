@@ -1,5 +1,0 @@
-use Rattle.tf_forest.proofs.BelowFloors.{empty_floors}
-use Rattle.tf_forest.proofs.floors.Floors.new.Goals as goal
-
-pub returns : goal.returns
-returns c = empty_floors _

@@ -1,7 +1,0 @@
-use Rattle.std.proofs.Common.{ap}
-use Rattle.tf_forest.specs.Counts.{Sealed}
-use Rattle.tf_forest.proofs.Sealed.{empty_rows}
-use Rattle.tf_forest.proofs.rows.Rows.new.Goals as goal
-
-pub returns-clause-empty : goal.returns-clause-empty
-returns-clause-empty g c = empty_rows (g.F.MutableRows.entries c.empty.result) c.new.result.tables c.args.registries.now.limit c.empty.ensures (ap (λ (s : Sealed). s.tables) c.new.ensures)

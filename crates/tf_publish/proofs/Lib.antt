@@ -1,0 +1,5 @@
+pub mod Sealed
+pub mod Measures
+pub mod Bounds
+pub mod OneRow
+pub mod PublishRows

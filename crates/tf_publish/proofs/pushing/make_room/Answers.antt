@@ -1,0 +1,43 @@
+use Rattle.std.proofs.Common.{◌≡◌, ◌<◌, Result, OnOk, sym, ap, subst, arith}
+use Rattle.std.specs.Prelude.{IfErr}
+use Rattle.tf_records.specs.declared.refusal.Refusal.{Refusal}
+use Rattle.tf_manifest.specs.declared.jobs.Merged.{Merged}
+use Rattle.tf_manifest.specs.declared.uninstalled.Uninstalled.{Uninstalled}
+use Rattle.tf_manifest.specs.Install.{OnStale}
+use Rattle.tf_manifest.specs.Jobs.{IsPickedFrom, StandsIn}
+use Rattle.tf_manifest.specs.View.{View, references_in}
+use Rattle.tf_publish.specs.Publish.{MakesRoom}
+use Rattle.tf_publish.proofs.OneRow.{few_left, of_row, room_made, stands_still}
+use Rattle.tf_publish.proofs.pushing.make_room.Goals as goal
+use Rattle.tf_publish.proofs.pushing.make_room.Goals.{in-Ok-install, in-Err-NoMemory}
+
+pub unreachable-requires-in-Err-Stale : goal.unreachable-requires-in-Err-Stale
+unreachable-requires-in-Err-Stale g c =
+    let stale = subst (λ (r : Result (Unit {0}) (Uninstalled (Merged g.row.A.Denot g.row.N.Denot))). IfErr r (λ e. OnStale e (StandsIn c.args.next.now.tables c.in-Ok.merged → ⊥))) c.in-Err-Stale.is c.install.ensures.stale in
+    let told = subst (λ (e : Uninstalled (Merged g.row.A.Denot g.row.N.Denot)). OnStale e (StandsIn c.args.next.now.tables c.in-Ok.merged → ⊥)) c.in-Err-Stale.field-0-is stale in
+    let picked = subst (λ (v : View). IsPickedFrom {A = g.row.A.Denot} {N = g.row.N.Denot} v c.args.row c.in-Some.job) c.manifest-manifest.ensures c.in-Some.ensures.some in
+    told (stands_still {A = g.row.A.Denot} {N = g.row.N.Denot} c.args.next.now.tables c.args.row c.in-Some.job c.in-Ok.merged picked c.in-Ok.ensures.job)
+
+pub returns-clause-room : goal.returns-clause-room
+returns-clause-room g c =
+    let old = c.args.next.now.tables in
+    let new = c.install.new.self.tables in
+    let full : references_in old c.args.row ≡ 64 = let is = c.references.ensures.value in let most = c.references.ensures.fits in let not_few = c.if-references-lt64.false in let same = ap (λ (v : View). references_in v c.args.row) c.manifest-manifest.ensures in omega (arith, is, most, not_few, same) in
+    let picked = subst (λ (v : View). IsPickedFrom {A = g.row.A.Denot} {N = g.row.N.Denot} v c.args.row c.in-Some.job) c.manifest-manifest.ensures c.in-Some.ensures.some in
+    let of = of_row {A = g.row.A.Denot} {N = g.row.N.Denot} old c.args.row c.in-Some.job c.in-Ok.merged picked c.in-Ok.ensures.job in
+    elim c.match-install.branch [
+      | in-Ok-install w ↦ subst (λ (r : Result (Unit {0}) Refusal). OnOk r (MakesRoom c.args.row old new)) (sym w.result-is) (room_made c.args.row old new c.in-Ok.merged w.in-Ok-install.ensures.installs of full c.install.ensures.content)
+      | in-Err-NoMemory w ↦ subst (λ (r : Result (Unit {0}) Refusal). OnOk r (MakesRoom c.args.row old new)) (sym w.result-is) tt
+    ]
+
+pub returns-clause-few : goal.returns-clause-few
+returns-clause-few g c =
+    let old = c.args.next.now.tables in
+    let new = c.install.new.self.tables in
+    let full : references_in old c.args.row ≡ 64 = let is = c.references.ensures.value in let most = c.references.ensures.fits in let not_few = c.if-references-lt64.false in let same = ap (λ (v : View). references_in v c.args.row) c.manifest-manifest.ensures in omega (arith, is, most, not_few, same) in
+    let picked = subst (λ (v : View). IsPickedFrom {A = g.row.A.Denot} {N = g.row.N.Denot} v c.args.row c.in-Some.job) c.manifest-manifest.ensures c.in-Some.ensures.some in
+    let of = of_row {A = g.row.A.Denot} {N = g.row.N.Denot} old c.args.row c.in-Some.job c.in-Ok.merged picked c.in-Ok.ensures.job in
+    elim c.match-install.branch [
+      | in-Ok-install w ↦ subst (λ (r : Result (Unit {0}) Refusal). OnOk r (references_in new c.args.row < 64)) (sym w.result-is) (few_left c.args.row old new c.in-Ok.merged w.in-Ok-install.ensures.installs of full)
+      | in-Err-NoMemory w ↦ subst (λ (r : Result (Unit {0}) Refusal). OnOk r (references_in new c.args.row < 64)) (sym w.result-is) tt
+    ]

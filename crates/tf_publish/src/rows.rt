@@ -1,0 +1,96 @@
+//! Mutable tables in front of the sealed ones of a manifest.
+ghost use Rattle.std.specs.Prelude.{◌≡◌, ◌∷◌, refl};
+ghost use Rattle.tf_table.specs.Content.{entry_of};
+ghost use Rattle.tf_table.specs.First.{IsFirstAbove};
+ghost use Rattle.tf_manifest.specs.Registries.{AreShelves};
+ghost use Rattle.tf_rows.specs.Counts.{nothing_sealed};
+ghost use Rattle.tf_rows.specs.Nest.{AreEmpty, IsTree, fits_row, has_each};
+ghost use Rattle.tf_rows.specs.Parts.{parts_of, sealed_in};
+
+use crate::Published;
+use std::alloc::Allocator;
+use tf_manifest::{Naming, Registries, Row, Value};
+use tf_records::Refusal;
+use tf_rows::{AllRows, Before, EmptyRows, MutableRows, RowSet};
+use tf_table::Key;
+
+/// Rows: what a row's mutable table has at a key comes before what its sealed tables have there.
+#[derive(Drop)]
+pub struct Rows<'r, F: MutableRows + Drop, A: Allocator, N: Naming> {
+    pub fresh: F,
+    pub published: Published<'r, A, N>,
+}
+
+impl<'r, F: MutableRows + Drop, A: Allocator, N: Naming> Rows<'r, F, A, N> {
+    /// Mutable tables without entries, which grow on `alloc`, and no sealed ones, with nothing counted. It takes no memory.
+    pub fn new(alloc: A, registries: &'r Registries<A>) -> Rows<'r, F, A, N>
+    where
+        F: EmptyRows<A>,
+        requires { AreShelves N.shelf registries.now }
+        ensures empty { AreEmpty (parts_of (F.entries result.fresh) result.published.tables) }
+        ensures sealed { result.published ≡ nothing_sealed registries.now.limit }
+    {
+        Rows {
+            fresh: F::empty(alloc),
+            published: Published::new(registries),
+        }
+    }
+
+    /// The first key of a row above a given one that has an entry, a value or a tombstone, in the mutable table or a
+    /// sealed one.
+    fn first_above(&self, row: Row, key: &Key) -> Option<Key>
+        ensures { IsFirstAbove key.now (λ found. entry_of found (F.entries self.now.fresh row ∷ sealed_in self.now.published.tables row)) result }
+    {
+        Key::lesser(
+            self.fresh.first_above(row, key),
+            self.published.manifest().first_above(row, key),
+        )
+    }
+}
+
+impl<'r, F: MutableRows + Drop, A: Allocator, N: Naming> RowSet for Rows<'r, F, A, N> {
+    ghost has_row = { has_each };
+
+    ghost fits = { fits_row };
+
+    ghost parts = { λ rows. parts_of (F.entries rows.fresh) rows.published.tables };
+
+    ghost sealed = { λ rows. rows.published };
+
+    ghost takes_any = { IsTree };
+
+    fn has_row(_row: Row) -> bool {
+        true
+    }
+
+    fn find(&self, row: Row, key: &Key) -> Option<Value> {
+        match self.fresh.entry(row, key) {
+            Some(entry) => entry,
+            None => self.published.manifest().find(row, key),
+        }
+    }
+
+    fn first_from(&self, row: Row, key: &Key) -> Option<Key> {
+        let mut place = *key;
+        while self.find(row, &place).is_none() {
+            place = self.first_above(row, &place)?;
+        }
+        Some(place)
+    }
+
+    fn put(&mut self, row: Row, key: Key, entry: Option<Value>) -> Result<Before, Refusal> {
+        self.fresh.put(row, key, entry)
+    }
+
+    fn take_back(&mut self, row: Row, key: &Key, before: Before) {
+        self.fresh.take_back(row, key, before);
+    }
+}
+
+impl<'r, F: MutableRows + Drop, A: Allocator, N: Naming> AllRows for Rows<'r, F, A, N> {
+    ghost has_all = { λ row. refl };
+
+    ghost fits_kind = { λ row value fits. fits };
+
+    ghost takes_trees = { λ row tree. tree };
+}

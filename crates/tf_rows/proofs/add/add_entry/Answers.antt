@@ -1,0 +1,79 @@
+use Rattle.std.proofs.Common.{List, sym, subst}
+use Rattle.tf_btree.proofs.Children.{on_ok}
+use Rattle.tf_journal.specs.declared.entry.Entry.TheVariants as entry
+use Rattle.tf_rows.specs.declared.change.Change.{Change}
+use Rattle.tf_rows.specs.Changes.{CanChangeAll, present}
+use Rattle.tf_rows.proofs.Added.{changed_by, made_by, shown_by}
+use Rattle.tf_rows.proofs.add.add_entry.Goals as goal
+
+pub make_changes-requires : goal.make_changes-requires
+make_changes-requires g c =
+    subst (λ (cs : List Change). CanChangeAll g.S.RowSet.has_row g.S.RowSet.fits g.S.RowSet.takes_any cs (g.S.RowSet.parts c.args.rows.now))
+    (sym (made_by (g.S.RowSet.parts c.args.rows.now) c.args.found.now (present c.account_changes.result) (entry.Account c.in-Account.account) c.args.entry.now c.in-Account.is c.account_changes.ensures)) c.requires.can
+
+pub returns-in-Account-clause-shows : goal.returns-in-Account-clause-shows
+returns-in-Account-clause-shows g c = λ journal sound grows found shows.
+    on_ok c.make_changes.result _ _
+    (λ made. shown_by (g.S.RowSet.parts c.args.rows.now) c.args.found.now (present c.account_changes.result) (entry.Account c.in-Account.account) c.args.entry.now c.in-Account.is c.account_changes.ensures
+    c.rows_show_the_next_entry.ensures (g.S.RowSet.parts c.make_changes.new.set) made journal sound grows found shows)
+    c.make_changes.ensures.rows
+
+pub returns-in-Account-clause-rows : goal.returns-in-Account-clause-rows
+returns-in-Account-clause-rows g c =
+    on_ok c.make_changes.result _ _
+    (changed_by (g.S.RowSet.parts c.args.rows.now) c.args.found.now (present c.account_changes.result) (entry.Account c.in-Account.account) c.args.entry.now c.in-Account.is c.account_changes.ensures (g.S.RowSet.parts c.make_changes.new.set))
+    c.make_changes.ensures.rows
+
+pub make_changes-requires-in-Transfer : goal.make_changes-requires-in-Transfer
+make_changes-requires-in-Transfer g c =
+    subst (λ (cs : List Change). CanChangeAll g.S.RowSet.has_row g.S.RowSet.fits g.S.RowSet.takes_any cs (g.S.RowSet.parts c.args.rows.now))
+    (sym (made_by (g.S.RowSet.parts c.args.rows.now) c.args.found.now (present c.transfer_changes.result) (entry.Transfer c.in-Transfer.transfer) c.args.entry.now c.in-Transfer.is c.transfer_changes.ensures)) c.requires.can
+
+pub returns-in-Transfer-clause-shows : goal.returns-in-Transfer-clause-shows
+returns-in-Transfer-clause-shows g c = λ journal sound grows found shows.
+    on_ok c.make_changes-in-Transfer.result _ _
+    (λ made. shown_by (g.S.RowSet.parts c.args.rows.now) c.args.found.now (present c.transfer_changes.result) (entry.Transfer c.in-Transfer.transfer) c.args.entry.now c.in-Transfer.is c.transfer_changes.ensures
+    c.rows_show_the_next_entry.ensures (g.S.RowSet.parts c.make_changes-in-Transfer.new.set) made journal sound grows found shows)
+    c.make_changes-in-Transfer.ensures.rows
+
+pub returns-in-Transfer-clause-rows : goal.returns-in-Transfer-clause-rows
+returns-in-Transfer-clause-rows g c =
+    on_ok c.make_changes-in-Transfer.result _ _
+    (changed_by (g.S.RowSet.parts c.args.rows.now) c.args.found.now (present c.transfer_changes.result) (entry.Transfer c.in-Transfer.transfer) c.args.entry.now c.in-Transfer.is c.transfer_changes.ensures (g.S.RowSet.parts c.make_changes-in-Transfer.new.set))
+    c.make_changes-in-Transfer.ensures.rows
+
+pub make_changes-requires-in-Expiry : goal.make_changes-requires-in-Expiry
+make_changes-requires-in-Expiry g c =
+    subst (λ (cs : List Change). CanChangeAll g.S.RowSet.has_row g.S.RowSet.fits g.S.RowSet.takes_any cs (g.S.RowSet.parts c.args.rows.now))
+    (sym (made_by (g.S.RowSet.parts c.args.rows.now) c.args.found.now (present c.expiry_changes.result) (entry.Expiry c.in-Expiry.timestamp c.in-Expiry.pending) c.args.entry.now c.in-Expiry.is c.expiry_changes.ensures)) c.requires.can
+
+pub returns-in-Expiry-clause-shows : goal.returns-in-Expiry-clause-shows
+returns-in-Expiry-clause-shows g c = λ journal sound grows found shows.
+    on_ok c.make_changes-in-Expiry.result _ _
+    (λ made. shown_by (g.S.RowSet.parts c.args.rows.now) c.args.found.now (present c.expiry_changes.result) (entry.Expiry c.in-Expiry.timestamp c.in-Expiry.pending) c.args.entry.now c.in-Expiry.is c.expiry_changes.ensures
+    c.rows_show_the_next_entry.ensures (g.S.RowSet.parts c.make_changes-in-Expiry.new.set) made journal sound grows found shows)
+    c.make_changes-in-Expiry.ensures.rows
+
+pub returns-in-Expiry-clause-rows : goal.returns-in-Expiry-clause-rows
+returns-in-Expiry-clause-rows g c =
+    on_ok c.make_changes-in-Expiry.result _ _
+    (changed_by (g.S.RowSet.parts c.args.rows.now) c.args.found.now (present c.expiry_changes.result) (entry.Expiry c.in-Expiry.timestamp c.in-Expiry.pending) c.args.entry.now c.in-Expiry.is c.expiry_changes.ensures (g.S.RowSet.parts c.make_changes-in-Expiry.new.set))
+    c.make_changes-in-Expiry.ensures.rows
+
+pub make_changes-requires-in-Failed : goal.make_changes-requires-in-Failed
+make_changes-requires-in-Failed g c =
+    subst (λ (cs : List Change). CanChangeAll g.S.RowSet.has_row g.S.RowSet.fits g.S.RowSet.takes_any cs (g.S.RowSet.parts c.args.rows.now))
+    (sym (made_by (g.S.RowSet.parts c.args.rows.now) c.args.found.now (present c.failed_changes.result) (entry.Failed c.in-Failed.timestamp c.in-Failed.id) c.args.entry.now c.in-Failed.is c.failed_changes.ensures)) c.requires.can
+
+pub returns-in-Failed-clause-shows : goal.returns-in-Failed-clause-shows
+returns-in-Failed-clause-shows g c = λ journal sound grows found shows.
+    on_ok c.make_changes-in-Failed.result _ _
+    (λ made. shown_by (g.S.RowSet.parts c.args.rows.now) c.args.found.now (present c.failed_changes.result) (entry.Failed c.in-Failed.timestamp c.in-Failed.id) c.args.entry.now c.in-Failed.is c.failed_changes.ensures
+    c.rows_show_the_next_entry.ensures (g.S.RowSet.parts c.make_changes-in-Failed.new.set) made journal sound grows found shows)
+    c.make_changes-in-Failed.ensures.rows
+
+pub returns-in-Failed-clause-rows : goal.returns-in-Failed-clause-rows
+returns-in-Failed-clause-rows g c =
+    on_ok c.make_changes-in-Failed.result _ _
+    (changed_by (g.S.RowSet.parts c.args.rows.now) c.args.found.now (present c.failed_changes.result) (entry.Failed c.in-Failed.timestamp c.in-Failed.id) c.args.entry.now c.in-Failed.is c.failed_changes.ensures (g.S.RowSet.parts c.make_changes-in-Failed.new.set))
+    c.make_changes-in-Failed.ensures.rows

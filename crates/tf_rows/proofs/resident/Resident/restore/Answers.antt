@@ -1,0 +1,13 @@
+use Rattle.std.proofs.Common.{◌∙◌, sym, ap, subst}
+use Rattle.tf_rows.specs.Resident.{AreAmong, held_at}
+use Rattle.tf_rows.proofs.HeldAccounts.{dropped, restore_tried}
+use Rattle.tf_rows.proofs.resident.Resident.restore.Goals as goal
+
+pub returns-in_default : goal.returns-in_default
+returns-in_default g c = λ accounts among.
+    dropped accounts c.self.inside.accounts c.remove.new.self (subst (AreAmong accounts) (sym c.self.view_is) among) c.args.former.now c.remove.ensures.rows
+
+pub returns-in-Some-get : goal.returns-in-Some-get
+returns-in-Some-get g c = λ accounts among.
+    restore_tried accounts c.self.inside.accounts c.insert.new.self (subst (AreAmong accounts) (sym c.self.view_is) among) c.args.former.now
+    c.insert.result c.in-Some.state c.in-Some-get.party c.in-Some.is (ap (held_at c.args.former.now.id) c.self.view_is ∙ sym c.get.ensures ∙ c.in-Some-get.is) c.insert.ensures.ok c.insert.ensures.absent

@@ -1,0 +1,16 @@
+pub mod Edits
+pub mod Back
+pub mod Fresh
+pub mod Counts
+pub mod LookUps
+pub mod Held
+pub mod Parts
+pub mod Changes
+pub mod Next
+pub mod Range
+pub mod Nest
+pub mod Floors
+pub mod Resident
+pub mod SealedRow
+pub mod Due
+pub mod Spelled

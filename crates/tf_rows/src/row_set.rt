@@ -1,0 +1,68 @@
+//! Rows, each of its own kind of value, that are found, written and taken back by their names.
+ghost use Rattle.std.specs.Prelude.{◌≡◌, ◌⊎◌, Bool, None, IsTrue, IsSome, IfSome, IfOk, IfErr, OnErr};
+ghost use Rattle.tf_table.specs.Content.{entry_at};
+ghost use Rattle.tf_table.specs.First.{IsFirstFrom};
+ghost use Rattle.tf_manifest.specs.declared.row.Row.{Row};
+ghost use Rattle.tf_manifest.specs.declared.value.Value.{Value};
+ghost use Rattle.tf_rows.specs.Counts.{Sealed};
+ghost use Rattle.tf_rows.specs.Parts.{IsPut, IsTakenBack, Parts, value_of_part};
+
+use crate::Before;
+use tf_manifest::{Row, Value};
+use tf_records::Refusal;
+use tf_table::Key;
+
+/// Rows, each with its mutable table and its sealed ones.
+pub trait RowSet {
+    /// Which rows are in the set.
+    ghost has_row: { Row → Bool };
+
+    /// Whether a value is of the kind that a row stores.
+    ghost fits: { Row → Value → Bool };
+
+    /// What each row has.
+    ghost parts: { Self → Parts };
+
+    /// The sealed tables and what was counted of them, which no change of a mutable table touches.
+    ghost sealed: { Self → Sealed };
+
+    /// A row whose mutable table takes an entry for any key. Others take one for a key without an entry alone.
+    ghost takes_any: { Row → Type 0 };
+
+    /// Whether a row is in the set.
+    fn has_row(row: Row) -> bool
+        ensures { result ≡ has_row row };
+
+    /// What a row has at a key.
+    fn find(&self, row: Row, key: &Key) -> Option<Value>
+        requires { IsTrue (has_row row) }
+        ensures { result ≡ value_of_part (parts self.now row) key.now };
+
+    /// The first key of a row at or above a given one that has a value, if one has.
+    ///
+    /// For each key on the way there that has a tombstone it takes a search and a look-up in each table.
+    fn first_from(&self, row: Row, key: &Key) -> Option<Key>
+        requires { IsTrue (has_row row) }
+        ensures { IsFirstFrom key.now (value_of_part (parts self.now row)) result };
+
+    /// Gives a key of a row an entry, a value or None for a tombstone, and tells the one that its mutable table had.
+    ///
+    /// The only refusal is `NoMemory`, and it changes nothing.
+    fn put(&mut self, row: Row, key: Key, entry: Option<Value>) -> Result<Before, Refusal>
+        requires has { IsTrue (has_row row) }
+        requires new { (entry_at key (parts self.old row).fresh ≡ None) ⊎ takes_any row }
+        requires fits { IfSome entry (λ value. IsTrue (fits row value)) }
+        ensures put { IfOk result (λ before. IsPut row key entry before (parts self.old) (parts self.new)) }
+        ensures kind { IfOk result (λ before. IfSome before (λ entry. IfSome entry (λ value. IsTrue (fits row value)))) }
+        ensures sealed { sealed self.new ≡ sealed self.old }
+        ensures err { OnErr result (parts self.new ≡ parts self.old) }
+        ensures refusal { IfErr result (λ refusal. refusal ≡ Refusal.NoMemory) };
+
+    /// Gives a key of a row the entry back that `put` told, or none. It takes no memory.
+    fn take_back(&mut self, row: Row, key: &Key, before: Before)
+        requires has { IsTrue (has_row row) }
+        requires there { IsSome (entry_at key.now (parts self.old row).fresh) }
+        requires fits { IfSome before (λ entry. IfSome entry (λ value. IsTrue (fits row value))) }
+        ensures back { IsTakenBack row key.now before (parts self.old) (parts self.new) }
+        ensures sealed { sealed self.new ≡ sealed self.old };
+}
