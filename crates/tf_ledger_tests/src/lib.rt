@@ -9,4 +9,6 @@ mod journal;
 #[cfg(test)]
 mod pending;
 #[cfg(test)]
+mod samples;
+#[cfg(test)]
 mod script;

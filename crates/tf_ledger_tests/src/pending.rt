@@ -4,6 +4,7 @@
 ghost use Rattle.std.specs.Prelude.{IfOk};
 ghost use Rattle.tf_journal.specs.Lawful.{IsLawfulAt};
 
+use crate::samples::{CASH, SALES, SECOND};
 use linked_list_allocator::LocalHeap;
 use std::alloc::Allocator;
 use std::test::Fail;
@@ -11,34 +12,7 @@ use tf_journal::{Ledger, PlainLedger, Status, is_settling};
 use tf_pending::{
     judge_settling, pulse, stored_settling, transfer_fault, used_id_fault, verdict_settling,
 };
-use tf_records::{AMOUNT_MAX, Account, Outcome, Refusal, TIMESTAMP_MAX, Transfer};
-
-/// A second, in nanoseconds.
-const SECOND: u64 = 1_000_000_000;
-
-/// An account of ledger 1, as it is stored at timestamp 1.
-const CASH: Account = Account {
-    id: 1,
-    debits_pending: 0,
-    debits_posted: 0,
-    credits_pending: 0,
-    credits_posted: 0,
-    user_data_128: 7,
-    user_data_64: 8,
-    user_data_32: 9,
-    reserved: 0,
-    ledger: 1,
-    code: 10,
-    flags: 0,
-    timestamp: 1,
-};
-
-/// Another, as it is stored at timestamp 2.
-const SALES: Account = Account {
-    id: 2,
-    timestamp: 2,
-    ..CASH
-};
+use tf_records::{AMOUNT_MAX, Outcome, Refusal, TIMESTAMP_MAX, Transfer};
 
 /// A pending transfer of 40 between them that expires after two seconds, as it is stored at timestamp 3.
 const ORDER: Transfer = Transfer {

@@ -1,37 +1,11 @@
 //! What no contract says: that entries can be added, found and undone, with sums counted by hand, and that want of
 //! memory is answered.
 
+use crate::samples::{CASH, SALES, SECOND};
 use linked_list_allocator::LocalHeap;
 use std::test::Fail;
 use tf_journal::{Entry, IdUse, Ledger, PlainLedger, Status};
 use tf_records::{Account, Refusal, Transfer};
-
-/// A second, in nanoseconds.
-const SECOND: u64 = 1_000_000_000;
-
-/// An account of ledger 1, as it is stored at timestamp 1.
-const CASH: Account = Account {
-    id: 1,
-    debits_pending: 0,
-    debits_posted: 0,
-    credits_pending: 0,
-    credits_posted: 0,
-    user_data_128: 7,
-    user_data_64: 8,
-    user_data_32: 9,
-    reserved: 0,
-    ledger: 1,
-    code: 10,
-    flags: 0,
-    timestamp: 1,
-};
-
-/// Another, as it is stored at timestamp 2.
-const SALES: Account = Account {
-    id: 2,
-    timestamp: 2,
-    ..CASH
-};
 
 /// A pending transfer of 40 between them, as it is stored at timestamp 3.
 const ORDER: Transfer = Transfer {

@@ -7,7 +7,8 @@ use Rattle.tf_journal.specs.Lawful.{IsLawfulAt}
 use Rattle.tf_journal.specs.Ledger.{CanGrow}
 use Rattle.tf_journal.proofs.Examples.{account_grows, transfer_grows}
 use Rattle.tf_journal.proofs.Sound.{sound_nothing, sound_push, up_to_push}
-use Rattle.tf_ledger_tests.specs.declared.pending.TheConstants.{CASH, SALES, ORDER, CLOSE}
+use Rattle.tf_ledger_tests.specs.declared.pending.TheConstants.{ORDER, CLOSE}
+use Rattle.tf_ledger_tests.specs.declared.samples.TheConstants.{CASH, SALES}
 use Rattle.tf_ledger_tests.proofs.pending.ledger_with_closed.Goals as goal
 
 abbrev accounts : List Entry

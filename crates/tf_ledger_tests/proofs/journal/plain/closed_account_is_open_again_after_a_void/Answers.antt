@@ -1,6 +1,7 @@
 use Rattle.std.proofs.Common.{[], ◌∷◌, refl}
 use Rattle.tf_journal.specs.declared.entry.Entry.TheVariants as entry
-use Rattle.tf_ledger_tests.specs.declared.journal.plain.TheConstants.{CASH, CLOSE, REOPEN, SALES}
+use Rattle.tf_ledger_tests.specs.declared.journal.plain.TheConstants.{CLOSE, REOPEN}
+use Rattle.tf_ledger_tests.specs.declared.samples.TheConstants.{CASH, SALES}
 use Rattle.tf_journal.proofs.Examples.{account_grows, transfer_grows}
 use Rattle.tf_ledger_tests.proofs.journal.plain.closed_account_is_open_again_after_a_void.Goals as goal
 

@@ -1,5 +1,5 @@
 use Rattle.std.proofs.Common.{[], refl}
-use Rattle.tf_ledger_tests.specs.declared.journal.plain.TheConstants.{CASH}
+use Rattle.tf_ledger_tests.specs.declared.samples.TheConstants.{CASH}
 use Rattle.tf_journal.proofs.Examples.{account_grows}
 use Rattle.tf_ledger_tests.proofs.journal.plain.entry_without_memory_is_refused.Goals as goal
 

@@ -1,6 +1,7 @@
 use Rattle.std.proofs.Common.{[], ◌∷◌, refl, lit≤}
 use Rattle.tf_journal.specs.declared.entry.Entry.TheVariants as entry
-use Rattle.tf_ledger_tests.specs.declared.journal.plain.TheConstants.{CASH, ORDER, POST, SALES}
+use Rattle.tf_ledger_tests.specs.declared.journal.plain.TheConstants.{ORDER, POST}
+use Rattle.tf_ledger_tests.specs.declared.samples.TheConstants.{CASH, SALES}
 use Rattle.tf_journal.proofs.Examples.{account_grows, failed_grows, transfer_grows}
 use Rattle.tf_ledger_tests.proofs.journal.plain.pending_transfer_is_posted_and_undone.Goals as goal
 

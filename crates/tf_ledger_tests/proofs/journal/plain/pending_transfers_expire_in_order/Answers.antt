@@ -1,6 +1,7 @@
 use Rattle.std.proofs.Common.{[], ◌∷◌, refl}
 use Rattle.tf_journal.specs.declared.entry.Entry.TheVariants as entry
-use Rattle.tf_ledger_tests.specs.declared.journal.plain.TheConstants.{CASH, OFFER, QUOTE, SALES}
+use Rattle.tf_ledger_tests.specs.declared.journal.plain.TheConstants.{OFFER, QUOTE}
+use Rattle.tf_ledger_tests.specs.declared.samples.TheConstants.{CASH, SALES}
 use Rattle.tf_journal.proofs.Examples.{account_grows, expiry_grows, transfer_grows}
 use Rattle.tf_ledger_tests.proofs.journal.plain.pending_transfers_expire_in_order.Goals as goal
 
