@@ -1,5 +1,5 @@
 //! Publishing a forest.
-ghost use Rattle.std.specs.Prelude.{◌≡◌, ◌≢◌, ◌+◌, ◌<◌, ◌≤◌, ◌==◌, false, length, Err, OnErr, OnOk, IfOk, IfErr, IsTrue, if◌then◌else◌};
+ghost use Rattle.std.specs.Prelude.{◌≡◌, ◌≢◌, ◌+◌, ◌<◌, ◌≤◌, ◌==◌, false, length, Err, OnErr, OnOk, IfOk, IfErr, IsOk, IsTrue, if◌then◌else◌};
 ghost use Rattle.tf_rows.specs.Counts.{AreBounded, IsReady, Loses, settled};
 ghost use Rattle.tf_rows.specs.Parts.{parts_of, value_of_part};
 ghost use Rattle.tf_publish.specs.Publish.{entries_waiting, tables_needed};
@@ -24,8 +24,9 @@ impl<'r, F: SealRows<A> + Drop, A: Allocator + Copy, N: Naming> Forest<Rows<'r, 
     ///
     /// It copies each entry of the mutable tables once, and may wait in a push. `RegistryFull` is answered before anything
     /// else, exactly where the tables that are needed, one for each row with entries and one more for each of those that is
-    /// full, don't fit under the limit of pushes. Else the only refusal is `NoMemory`. Everything stays as it was, but that
-    /// tables that were pushed are counted, and their entries, until the copy is settled, both as sealed and as held.
+    /// full, don't fit under the limit of pushes. Else the only refusal is `NoMemory`, and where no mutable table has an entry
+    /// there is none at all. Everything stays as it was, but that tables that were pushed are counted, and their entries,
+    /// until the copy is settled, both as sealed and as held.
     pub fn prepare<R: Wait>(&mut self, rt: &R) -> Result<Prepared<'r, A, N>, Refusal>
         requires { self.old.kept ≡ length self.old.journal }
         ensures shows { IfOk result (λ prepared. ShowsJournal prepared.tables self.new.journal) }
@@ -34,6 +35,7 @@ impl<'r, F: SealRows<A> + Drop, A: Allocator + Copy, N: Naming> Forest<Rows<'r, 
         ensures ready { IfOk result (IsReady self.new.sealed) }
         ensures fits { OnOk result (self.old.sealed.tables.pushed.count + self.old.needed ≤ self.old.sealed.tables.pushed.limit) }
         ensures waits { IsUnpublished self.old self.new }
+        ensures idle { self.old.waiting ≡ 0 → IsOk result }
         ensures full { result ≡ Err Refusal.RegistryFull → (self.new ≡ self.old) × (self.old.sealed.tables.pushed.limit < self.old.sealed.tables.pushed.count + self.old.needed) }
         ensures refused { IfErr result (λ refusal. refusal ≢ Refusal.RegistryFull → (refusal ≡ Refusal.NoMemory) × (self.old.sealed.tables.pushed.count + self.old.needed ≤ self.old.sealed.tables.pushed.limit)) }
     {
@@ -77,6 +79,7 @@ impl<'r, F: SealRows<A> + Drop, A: Allocator + Copy, N: Naming> Forest<Rows<'r, 
         ensures publishes { OnOk result (self.new.sealed.counts.publishes ≡ self.old.sealed.counts.publishes + (if self.old.needed == 0 then 0 else 1)) }
         ensures fits { OnOk result (self.old.sealed.tables.pushed.count + self.old.needed ≤ self.old.sealed.tables.pushed.limit) }
         ensures err { OnErr result (IsUnpublished self.old self.new) }
+        ensures idle { self.old.waiting ≡ 0 → IsOk result }
         ensures full { result ≡ Err Refusal.RegistryFull → (self.new ≡ self.old) × (self.old.sealed.tables.pushed.limit < self.old.sealed.tables.pushed.count + self.old.needed) }
         ensures refused { IfErr result (λ refusal. refusal ≢ Refusal.RegistryFull → (refusal ≡ Refusal.NoMemory) × (self.old.sealed.tables.pushed.count + self.old.needed ≤ self.old.sealed.tables.pushed.limit)) }
     {

@@ -1,5 +1,5 @@
 //! The tables that a publish pushes.
-ghost use Rattle.std.specs.Prelude.{◌≡◌, ◌+◌, ◌<◌, ◌≤◌, false, IfOk, IfErr, IsTrue};
+ghost use Rattle.std.specs.Prelude.{◌≡◌, ◌+◌, ◌<◌, ◌≤◌, false, IfOk, IfErr, IsOk, IsTrue};
 ghost use Rattle.tf_rows.specs.Counts.{IsReady, Loses};
 ghost use Rattle.tf_rows.specs.Parts.{parts_of, value_of_part};
 ghost use Rattle.tf_publish.specs.Publish.{entries_waiting, tables_needed};
@@ -16,11 +16,12 @@ use tf_manifest::Naming;
 use tf_records::Refusal;
 use tf_rows::SealRows;
 
-/// Whether the tables that a publish pushes fit under the limit.
+/// Whether the tables that a publish pushes fit under the limit. None always do.
 pub fn has_room<'r, F: SealRows<A> + Drop, A: Allocator + Copy, N: Naming>(
     rows: &Rows<'r, F, A, N>,
 ) -> bool
     ensures fits { IsTrue result → rows.now.published.tables.pushed.count + tables_needed (F.entries rows.now.fresh) rows.now.published.tables ≤ rows.now.published.tables.pushed.limit }
+    ensures idle { entries_waiting (F.entries rows.now.fresh) ≡ 0 → IsTrue result }
     ensures full { result ≡ false → rows.now.published.tables.pushed.limit < rows.now.published.tables.pushed.count + tables_needed (F.entries rows.now.fresh) rows.now.published.tables }
 {
     let manifest = rows.published.manifest();
@@ -30,7 +31,7 @@ pub fn has_room<'r, F: SealRows<A> + Drop, A: Allocator + Copy, N: Naming>(
 /// Seals each mutable table that has an entry, and puts it in front of its row's sealed tables in a copy of these. Where a
 /// row is full, its run that is to be merged next is merged in the copy first.
 ///
-/// The only refusal is `NoMemory`. Whatever it answers, the rows have what they had, and what was pushed is counted, all its
+/// The only refusal is `NoMemory`, and there is none where no mutable table has an entry. Whatever it answers, the rows have what they had, and what was pushed is counted, all its
 /// entries as sealed and as held.
 pub fn prepare_rows<'r, R: Wait, F: SealRows<A> + Drop, A: Allocator + Copy, N: Naming>(
     rt: &R,
@@ -44,6 +45,7 @@ pub fn prepare_rows<'r, R: Wait, F: SealRows<A> + Drop, A: Allocator + Copy, N: 
     ensures ready { IfOk result (IsReady rows.new.published) }
     ensures fresh { F.entries rows.new.fresh ≡ F.entries rows.old.fresh }
     ensures loses { Loses rows.old.published rows.new.published (tables_needed (F.entries rows.old.fresh) rows.old.published.tables) }
+    ensures idle { entries_waiting (F.entries rows.old.fresh) ≡ 0 → IsOk result }
     ensures refusal { IfErr result (λ refusal. refusal ≡ Refusal.NoMemory) }
 {
     // Only the count tells what it bounds.

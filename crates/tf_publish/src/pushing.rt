@@ -1,5 +1,5 @@
 //! Mutable tables pushed row by row: sealed, and put in front of the sealed tables of their rows.
-ghost use Rattle.std.specs.Prelude.{◌≡◌, ◌+◌, ◌<◌, ◌≤◌, length, IfErr, OnErr, OnOk};
+ghost use Rattle.std.specs.Prelude.{◌≡◌, ◌+◌, ◌<◌, ◌≤◌, length, IfErr, IsOk, OnErr, OnOk};
 ghost use Rattle.tf_rows.specs.Counts.{PushesMore, all_references};
 ghost use Rattle.tf_rows.specs.Parts.{parts_of, place_of, value_of_part};
 ghost use Rattle.tf_publish.specs.Publish.{MakesRoom, PublishesRow, entries_waiting, needed_for, tables_needed};
@@ -66,6 +66,7 @@ fn push_row<'r, R: Wait, F: SealRows<A>, A: Allocator + Copy, N: Naming>(
     ensures fresh { F.entries fresh.new ≡ F.entries fresh.old }
     ensures more { PushesMore next.old next.new }
     ensures most { next.new.tables.pushed.count ≤ next.old.tables.pushed.count + needed_for (F.entries fresh.old row) (references_in next.old.tables row) }
+    ensures idle { length (F.entries fresh.old row) ≡ 0 → IsOk result }
     ensures refusal { IfErr result (λ refusal. refusal ≡ Refusal.NoMemory) }
 {
     if fresh.has_none(row) {
@@ -123,7 +124,8 @@ pub(crate) fn tables_needed<'r, F: SealRows<A>, A: Allocator + Copy, N: Naming>(
 
 /// Seals each mutable table that has an entry, row by row, and puts it in front of its row's sealed tables.
 ///
-/// The only refusal is `NoMemory`. The mutable tables keep their entries.
+/// The only refusal is `NoMemory`, and there is none where no mutable table has an entry. The mutable tables keep their
+/// entries.
 pub(crate) fn push_rows<'r, R: Wait, F: SealRows<A>, A: Allocator + Copy, N: Naming>(
     rt: &R,
     fresh: &mut F,
@@ -139,6 +141,7 @@ pub(crate) fn push_rows<'r, R: Wait, F: SealRows<A>, A: Allocator + Copy, N: Nam
     ensures fresh { F.entries fresh.new ≡ F.entries fresh.old }
     ensures more { PushesMore next.old next.new }
     ensures most { next.new.tables.pushed.count ≤ next.old.tables.pushed.count + tables_needed (F.entries fresh.old) next.old.tables }
+    ensures idle { entries_waiting (F.entries fresh.old) ≡ 0 → IsOk result }
     ensures refusal { IfErr result (λ refusal. refusal ≡ Refusal.NoMemory) }
 {
     for number in 0..Row::ALL.len() {
