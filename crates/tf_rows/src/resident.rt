@@ -1,5 +1,5 @@
 //! Accounts in use, held beside the rows.
-ghost use Rattle.std.specs.Prelude.{◌≡◌, ◌++◌, ◌∷◌, [], List};
+ghost use Rattle.std.specs.Prelude.{◌≡◌, ◌<◌, ◌++◌, ◌∷◌, [], List, length};
 ghost use Rattle.tf_rows.specs.Edits.{found_for, party_of};
 ghost use Rattle.tf_rows.specs.Range.{LeavesInRange};
 ghost use Rattle.tf_rows.specs.Resident.{Accounts, AreAmong, accounts_after, accounts_before, formers_of, held_at, with_any, with_party, without_any, without_change};
@@ -137,7 +137,8 @@ impl<A: Allocator + Clone> Resident<A> {
 
     /// Drops all accounts where there are as many as may be held, so that others can enter. It takes no memory.
     pub fn make_place(&mut self)
-        ensures { (accounts : Accounts) → AreAmong accounts self.old → AreAmong accounts self.new }
+        ensures among { (accounts : Accounts) → AreAmong accounts self.old → AreAmong accounts self.new }
+        ensures place { length self.new < 65536 }
     {
         if self.accounts.len() >= MOST {
             self.accounts.clear();

@@ -26,7 +26,7 @@ invariant_of-self g c =
       count = search (rules, all);
       floors = subst (λ (n : ℕ). HaveFloors c.at-self-inside.result (journal_in rows) n) all
           (c.at-self-inside.ensures.holds (journal_in rows) (content_in rows) c.self.inside.floors.present c.self.invariant.shows.shows c.self.invariant.floors.present c.first_from-first.ensures);
-      resident = c.make_place.ensures (party_of (journal_in rows)) c.self.invariant.resident;
+      resident = c.make_place.ensures.among (party_of (journal_in rows)) c.self.invariant.resident;
       up_to =
           subst (IsUpTo c.args.moment) (sym (take_all (c.self.inside.kept + c.len.result) (journal_in rows) (omega (arith, all))))
           (subst (IsUpTo c.args.moment) (sym (ap (λ (v : View). v.journal) c.self.view_is)) c.requires.up_to);
