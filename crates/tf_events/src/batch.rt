@@ -13,8 +13,9 @@ use std::alloc::Allocator;
 use tf_journal::Ledger;
 use tf_records::{Account, BATCH_MAX, Failure, Refusal, Reply, TIMESTAMP_MAX, Transfer};
 
-/// The clock after a batch of so many events, or why the batch is refused.
-fn clock_after(clock: u64, count: usize, now: u64) -> Result<u64, Refusal>
+/// The clock after a batch of so many events, or why the batch is refused: as [`run_accounts`] and [`run_transfers`] test it
+/// first. Takes no memory.
+pub fn clock_after(clock: u64, count: usize, now: u64) -> Result<u64, Refusal>
     ensures { MatchOption (batch_refusal clock count now) (result ≡ Ok (batch_clock clock count now)) (λ refusal. result ≡ Err refusal) }
 {
     if count > BATCH_MAX as usize {
@@ -46,6 +47,7 @@ fn run_events<E: Event, L: Ledger, A: Allocator>(
     ensures sound { OnOk result (IsSoundAt (before + length events.now) (L.journal ledger.new)) }
     ensures chained { OnOk result (AreChained (L.journal ledger.new)) }
     ensures goes_on { GoesOn L.journal L.clock L.kept ledger.old ledger.new result }
+    ensures rest { L.rest ledger.new ≡ L.rest ledger.old }
 {
     let mut failures = Vec::new(alloc);
     let mut start = 0;
@@ -72,7 +74,8 @@ fn run_batch<E: Event, L: Ledger, A: Allocator>(
     now: u64,
 ) -> Result<Reply<A>, Refusal>
     requires { IsLawfulAt (L.clock ledger.old) (L.journal ledger.old) }
-    ensures { IsBatchRun E.kind L.journal L.clock L.kept ledger.old ledger.new events.now now result }
+    ensures run { IsBatchRun E.kind L.journal L.clock L.kept ledger.old ledger.new events.now now result }
+    ensures rest { L.rest ledger.new ≡ L.rest ledger.old }
 {
     let before = now.max(ledger.clock());
     let clock = clock_after(ledger.clock(), events.len(), now)?;
@@ -107,7 +110,8 @@ pub fn run_accounts<L: Ledger, A: Allocator>(
     now: u64,
 ) -> Result<Reply<A>, Refusal>
     requires { IsLawfulAt (L.clock ledger.old) (L.journal ledger.old) }
-    ensures { IsBatchRun accounts L.journal L.clock L.kept ledger.old ledger.new events.now now result }
+    ensures run { IsBatchRun accounts L.journal L.clock L.kept ledger.old ledger.new events.now now result }
+    ensures rest { L.rest ledger.new ≡ L.rest ledger.old }
 {
     run_batch(alloc, ledger, events, now)
 }
@@ -126,7 +130,8 @@ pub fn run_transfers<L: Ledger, A: Allocator>(
     now: u64,
 ) -> Result<Reply<A>, Refusal>
     requires { IsLawfulAt (L.clock ledger.old) (L.journal ledger.old) }
-    ensures { IsBatchRun transfers L.journal L.clock L.kept ledger.old ledger.new events.now now result }
+    ensures run { IsBatchRun transfers L.journal L.clock L.kept ledger.old ledger.new events.now now result }
+    ensures rest { L.rest ledger.new ≡ L.rest ledger.old }
 {
     run_batch(alloc, ledger, events, now)
 }

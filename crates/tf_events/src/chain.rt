@@ -19,7 +19,8 @@ use tf_records::{BATCH_MAX, Failure, Outcome, Refusal, TIMESTAMP_MAX};
 /// Stores an entry, which the journal admits.
 fn add_entry<L: Ledger>(ledger: &mut L, entry: Entry) -> Result<(), Refusal>
     requires { CanGrow (L.journal ledger.old) entry }
-    ensures { IsAddition L.journal L.clock L.kept ledger.old ledger.new entry result }
+    ensures addition { IsAddition L.journal L.clock L.kept ledger.old ledger.new entry result }
+    ensures rest { L.rest ledger.new ≡ L.rest ledger.old }
 {
     match entry {
         Entry::Account(account) => ledger.add_account(account),
@@ -64,6 +65,7 @@ fn store_events<E: Event, L: Ledger>(
     ensures within { IfOk result (λ own. IfSome own (λ o. o.timestamp ≤ before + length events.now)) }
     ensures sound { OnOk result (IsSoundAt (before + length events.now) (L.journal ledger.new)) }
     ensures goes_on { GoesOn L.journal L.clock L.kept ledger.old ledger.new result }
+    ensures rest { L.rest ledger.new ≡ L.rest ledger.old }
 {
     for (i, event) in events.iter().enumerate() {
         let timestamp = before + 1 + i as u64;
@@ -89,6 +91,7 @@ fn leave<E: Event, L: Ledger>(ledger: &mut L, own: &Option<OwnFault<E>>) -> Resu
     ensures stored { OnOk result (L.journal ledger.new
         ≡ L.journal ledger.old ++ entries_left E.kind (option_map own_failure_of own.now)) }
     ensures goes_on { GoesOn L.journal L.clock L.kept ledger.old ledger.new result }
+    ensures rest { L.rest ledger.new ≡ L.rest ledger.old }
 {
     let Some(own) = own else {
         return Ok(());
@@ -138,6 +141,7 @@ fn run_closed_chain<E: Event, L: Ledger, A: Allocator>(
         (L.journal ledger.new) failures.old.items failures.new.items) }
     ensures sound { OnOk result (IsSoundAt (before + length events.now) (L.journal ledger.new)) }
     ensures goes_on { GoesOn L.journal L.clock L.kept ledger.old ledger.new result }
+    ensures rest { L.rest ledger.new ≡ L.rest ledger.old }
 {
     let mark = ledger.mark();
     let own = store_events(ledger, events, index, before)?;
@@ -168,6 +172,7 @@ fn run_open_chain<E: Event, L: Ledger, A: Allocator>(
         (L.journal ledger.new) failures.old.items failures.new.items) }
     ensures sound { OnOk result (IsSoundAt (before + length events.now) (L.journal ledger.new)) }
     ensures goes_on { GoesOn L.journal L.clock L.kept ledger.old ledger.new result }
+    ensures rest { L.rest ledger.new ≡ L.rest ledger.old }
 {
     let mark = ledger.mark();
     let own = store_events(ledger, events, index, before)?;
@@ -199,6 +204,7 @@ pub fn run_chain<E: Event, L: Ledger, A: Allocator>(
         (L.journal ledger.new) failures.old.items failures.new.items) }
     ensures sound { OnOk result (IsSoundAt (before + length chain.now) (L.journal ledger.new)) }
     ensures goes_on { GoesOn L.journal L.clock L.kept ledger.old ledger.new result }
+    ensures rest { L.rest ledger.new ≡ L.rest ledger.old }
 {
     let last = chain.len() - 1;
     if chain[last].is_linked() {

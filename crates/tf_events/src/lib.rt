@@ -16,5 +16,5 @@ mod own_fault;
 mod transfer;
 
 pub use account::{stored_account, verdict_account};
-pub use batch::{run_accounts, run_transfers};
+pub use batch::{clock_after, run_accounts, run_transfers};
 pub use transfer::{stored_transfer, verdict_transfer};

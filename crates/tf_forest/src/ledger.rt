@@ -12,6 +12,12 @@ impl<S: AllRows + Drop, A: Allocator + Copy> Ledger for Forest<S, A> {
 
     ghost kept = { λ forest. forest.kept };
 
+    ghost use Rattle.tf_rows.specs.Counts.{Sealed};
+
+    ghost Rest = { Sealed };
+
+    ghost rest = { λ forest. forest.sealed };
+
     fn clock(&self) -> u64 {
         Forest::clock(self)
     }

@@ -33,6 +33,12 @@ pub trait Ledger {
     /// How many entries stand for good.
     ghost kept: { Self → ℕ };
 
+    /// What the ledger keeps besides, of a kind of its own.
+    ghost Rest: { Type 0 };
+
+    /// What the ledger keeps besides. Neither an entry nor an undo changes it.
+    ghost rest: { Self → Rest };
+
     /// The moment after which the next timestamps are given out, 0 at first. Takes no memory.
     fn clock(&self) -> u64
         ensures { result ≡ clock self.now };
@@ -69,24 +75,28 @@ pub trait Ledger {
     /// Stores an account, which the journal admits. [`Refusal::NoMemory`] leaves all as it was.
     fn add_account(&mut self, account: Account) -> Result<(), Refusal>
         requires { CanGrow (journal self.old) (Entry.Account account) }
-        ensures { IsAddition journal clock kept self.old self.new (Entry.Account account) result };
+        ensures addition { IsAddition journal clock kept self.old self.new (Entry.Account account) result }
+        ensures rest { rest self.new ≡ rest self.old };
 
     /// Stores a transfer, which the journal admits. [`Refusal::NoMemory`] leaves all as it was.
     fn add_transfer(&mut self, transfer: Transfer) -> Result<(), Refusal>
         requires { CanGrow (journal self.old) (Entry.Transfer transfer) }
-        ensures { IsAddition journal clock kept self.old self.new (Entry.Transfer transfer) result };
+        ensures addition { IsAddition journal clock kept self.old self.new (Entry.Transfer transfer) result }
+        ensures rest { rest self.new ≡ rest self.old };
 
     /// Stores that the time of a pending transfer, named by its timestamp, is over: it is the next that is due
     /// just before this timestamp. [`Refusal::NoMemory`] leaves all as it was.
     fn add_expiry(&mut self, timestamp: u64, pending: u64) -> Result<(), Refusal>
         requires { CanGrow (journal self.old) (Entry.Expiry timestamp pending) }
-        ensures { IsAddition journal clock kept self.old self.new (Entry.Expiry timestamp pending) result };
+        ensures addition { IsAddition journal clock kept self.old self.new (Entry.Expiry timestamp pending) result }
+        ensures rest { rest self.new ≡ rest self.old };
 
     /// Stores that a transfer with this id failed for a passing reason. No transfer has the id, and it hasn't
     /// failed before. [`Refusal::NoMemory`] leaves all as it was.
     fn add_failed(&mut self, timestamp: u64, id: u128) -> Result<(), Refusal>
         requires { CanGrow (journal self.old) (Entry.Failed timestamp id) }
-        ensures { IsAddition journal clock kept self.old self.new (Entry.Failed timestamp id) result };
+        ensures addition { IsAddition journal clock kept self.old self.new (Entry.Failed timestamp id) result }
+        ensures rest { rest self.new ≡ rest self.old };
 
     /// The present length of the journal, which isn't below what was last kept. Takes no memory.
     fn mark(&self) -> Mark
@@ -99,7 +109,8 @@ pub trait Ledger {
         requires present { to.length ≤ length (journal self.old) }
         ensures cut { journal self.new ≡ take to.length (journal self.old) }
         ensures clock_kept { clock self.new ≡ clock self.old }
-        ensures length_kept { kept self.new ≡ kept self.old };
+        ensures length_kept { kept self.new ≡ kept self.old }
+        ensures rest { rest self.new ≡ rest self.old };
 
     /// Lets all entries stand for good, and sets the clock, to which no entry is younger. Takes no memory.
     fn keep(&mut self, moment: u64)
@@ -107,5 +118,6 @@ pub trait Ledger {
         requires in_range { moment ≤ TIMESTAMP_MAX }
         ensures same { journal self.new ≡ journal self.old }
         ensures clock { clock self.new ≡ moment }
-        ensures all_kept { kept self.new ≡ length (journal self.old) };
+        ensures all_kept { kept self.new ≡ length (journal self.old) }
+        ensures rest { rest self.new ≡ rest self.old };
 }

@@ -69,6 +69,10 @@ impl<A: Allocator> Ledger for PlainLedger<A> {
 
     ghost kept = { λ ledger. ledger.kept };
 
+    ghost Rest = { Unit {0} };
+
+    ghost rest = { λ _. tt };
+
     fn clock(&self) -> u64 {
         self.clock
     }

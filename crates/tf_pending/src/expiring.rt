@@ -19,7 +19,8 @@ use tf_records::{BATCH_MAX, Refusal, TIMESTAMP_MAX};
 /// [`Refusal::NoMemory`]. After a refusal all is as it was. Costs a look-up and memory for an entry for each expiry.
 pub fn pulse<L: Ledger>(ledger: &mut L, now: u64, max: u32) -> Result<u32, Refusal>
     requires { IsLawfulAt (L.clock ledger.old) (L.journal ledger.old) }
-    ensures { IsPulseRun L.journal L.clock L.kept ledger.old ledger.new now max result }
+    ensures run { IsPulseRun L.journal L.clock L.kept ledger.old ledger.new now max result }
+    ensures rest { L.rest ledger.new ≡ L.rest ledger.old }
 {
     let moment = now.max(ledger.clock());
     let most = max.min(BATCH_MAX);
@@ -61,6 +62,7 @@ fn expire_due<L: Ledger>(ledger: &mut L, moment: u64, most: u32) -> Result<u32, 
     ensures begins { take (length (L.journal ledger.old)) (L.journal ledger.new) ≡ L.journal ledger.old }
     ensures clock_kept { L.clock ledger.new ≡ L.clock ledger.old }
     ensures length_kept { L.kept ledger.new ≡ L.kept ledger.old }
+    ensures rest { L.rest ledger.new ≡ L.rest ledger.old }
 {
     for count in 0..most {
         let Some(pending) = ledger.next_due(moment) else {

@@ -78,4 +78,5 @@ loop-start-preserved g c =
       extends = extends_more first journal after so_far.extends ran.goes_on.extends;
       clock = ran.goes_on.clock ∙ so_far.clock;
       kept = ran.goes_on.kept ∙ so_far.kept;
+      rest = ran.rest ∙ so_far.rest;
     }

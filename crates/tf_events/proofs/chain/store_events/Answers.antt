@@ -15,7 +15,7 @@ loop-i-preserved g c =
     let after = g.L.Ledger.journal c.add_entry.new.ledger in
     let timestamp = c.args.before + 1 + c.loop-i.i in
     let so_far = c.loop-i.invariant in
-    let added = c.in_ok-add_entry-in-Ok.ensures in
+    let added = c.in_ok-add_entry-in-Ok.ensures.addition in
     let more = accepted_more kind journal after c.args.index (c.args.before + 1) c.loop-i.i c.args.events.now c.index-events-i.result c.in-Ok.entry
     (omega arith) c.index-events-i.is c.in-Ok.ensures.ok added.ok in
     let sound = accepted_sound kind g.met.E.Event.keeps (c.args.before + c.loop-i.i) journal timestamp c.index-events-i.result c.in-Ok.entry
@@ -29,4 +29,5 @@ loop-i-preserved g c =
           (extends_push (g.L.Ledger.journal c.args.ledger.now) journal c.in-Ok.entry so_far.extends);
       clock = added.clock ∙ so_far.clock;
       kept = added.kept ∙ so_far.kept;
+      rest = c.in_ok-add_entry-in-Ok.ensures.rest ∙ so_far.rest;
     }

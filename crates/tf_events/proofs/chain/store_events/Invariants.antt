@@ -18,4 +18,5 @@ invariant-loop-i g l =
       extends : Extends (journal l.initial.ledger) (journal l.ledger);
       clock : g.L.Ledger.clock l.ledger ≡ g.L.Ledger.clock l.initial.ledger;
       kept : g.L.Ledger.kept l.ledger ≡ g.L.Ledger.kept l.initial.ledger;
+      rest : g.L.Ledger.rest l.ledger ≡ g.L.Ledger.rest l.initial.ledger;
     }

@@ -48,14 +48,14 @@ pub add_account-requires : goal.add_account-requires
 add_account-requires g c = rw c.new-ledger.ensures.journal cash_grows
 
 pub add_account-requires-2 : goal.add_account-requires-2
-add_account-requires-2 g c = rw (c.in_ok-add_account.ensures.ok, c.new-ledger.ensures.journal) sales_grows
+add_account-requires-2 g c = rw (c.in_ok-add_account.ensures.addition.ok, c.new-ledger.ensures.journal) sales_grows
 
 pub add_transfer-requires : goal.add_transfer-requires
-add_transfer-requires g c = rw (c.in_ok-add_account-2.ensures.ok, c.in_ok-add_account.ensures.ok, c.new-ledger.ensures.journal) order_grows
+add_transfer-requires g c = rw (c.in_ok-add_account-2.ensures.addition.ok, c.in_ok-add_account.ensures.addition.ok, c.new-ledger.ensures.journal) order_grows
 
 pub add_transfer-requires-2 : goal.add_transfer-requires-2
-add_transfer-requires-2 g c = rw (c.in_ok-add_transfer.ensures.ok, c.in_ok-add_account-2.ensures.ok, c.in_ok-add_account.ensures.ok, c.new-ledger.ensures.journal) close_grows
+add_transfer-requires-2 g c = rw (c.in_ok-add_transfer.ensures.addition.ok, c.in_ok-add_account-2.ensures.addition.ok, c.in_ok-add_account.ensures.addition.ok, c.new-ledger.ensures.journal) close_grows
 
 pub returns : goal.returns
 returns g c =
-    rw (c.keep.ensures.clock, c.keep.ensures.same, c.in_ok-add_transfer-2.ensures.ok, c.in_ok-add_transfer.ensures.ok, c.in_ok-add_account-2.ensures.ok, c.in_ok-add_account.ensures.ok, c.new-ledger.ensures.journal) is_lawful
+    rw (c.keep.ensures.clock, c.keep.ensures.same, c.in_ok-add_transfer-2.ensures.addition.ok, c.in_ok-add_transfer.ensures.addition.ok, c.in_ok-add_account-2.ensures.addition.ok, c.in_ok-add_account.ensures.addition.ok, c.new-ledger.ensures.journal) is_lawful

@@ -11,20 +11,20 @@ returns-in-Accounts g c = rw c.in-Accounts.is
     (batch_run kind.accounts (λ ledger. ledger.entries.items) (λ ledger. ledger.clock) (λ ledger. ledger.kept) c.args.ledger.now c.run_accounts-outcome.new.ledger
     c.in-Accounts.events.items c.in-Accounts.now c.run_accounts-outcome.result c.clock.result _ _
     (accounts c.in-Accounts.now c.in-Accounts.events.items) c.write_batch.result refl refl refl c.clock.ensures
-    (rw c.as_slice.ensures.value at c.run_accounts-outcome.ensures) c.write_batch.ensures)
+    (rw c.as_slice.ensures.value at c.run_accounts-outcome.ensures.run) c.write_batch.ensures)
 
 pub returns-in-Transfers : goal.returns-in-Transfers
 returns-in-Transfers g c = rw c.in-Transfers.is
     (batch_run kind.transfers (λ ledger. ledger.entries.items) (λ ledger. ledger.clock) (λ ledger. ledger.kept) c.args.ledger.now c.run_transfers-outcome.new.ledger
     c.in-Transfers.events.items c.in-Transfers.now c.run_transfers-outcome.result c.clock-in-Transfers.result _ _
     (transfers c.in-Transfers.now c.in-Transfers.events.items) c.write_batch-in-Transfers.result refl refl refl c.clock-in-Transfers.ensures
-    (rw c.as_slice-in-Transfers.ensures.value at c.run_transfers-outcome.ensures) c.write_batch-in-Transfers.ensures)
+    (rw c.as_slice-in-Transfers.ensures.value at c.run_transfers-outcome.ensures.run) c.write_batch-in-Transfers.ensures)
 
 pub returns-in-Pulse : goal.returns-in-Pulse
 returns-in-Pulse g c = rw c.in-Pulse.is
     (pulse_run (λ ledger. ledger.entries.items) (λ ledger. ledger.clock) (λ ledger. ledger.kept) c.args.ledger.now c.pulse-outcome.new.ledger
     c.in-Pulse.now c.in-Pulse.max c.pulse-outcome.result c.clock-in-Pulse.result _ _ c.write_pulsed.result c.clock-in-Pulse.ensures
-    c.pulse-outcome.ensures c.write_pulsed.ensures)
+    c.pulse-outcome.ensures.run c.write_pulsed.ensures)
 
 pub returns-in-LookupAccounts : goal.returns-in-LookupAccounts
 returns-in-LookupAccounts g c = rw c.in-LookupAccounts.is

@@ -34,9 +34,10 @@ loop-count-preserved g c =
     let turn = c.loop-count-test.true in
     omega (arith, within, turn, c.requires.in_range) in
     let next = expiring_next c.args.moment start journal c.loop-count.count c.in-Some.pending c.loop-count.invariant.expired (sym c.next_due.ensures ∙ c.in-Some.is) later in
-    let added = subst (λ n. g.L.Ledger.journal c.add_expiry.new.self ≡ journal ++ entry.Expiry (c.args.moment + n + 1) c.in-Some.pending.timestamp ∷ []) c.from.ensures c.in_ok-add_expiry.ensures.ok in
+    let added = subst (λ n. g.L.Ledger.journal c.add_expiry.new.self ≡ journal ++ entry.Expiry (c.args.moment + n + 1) c.in-Some.pending.timestamp ∷ []) c.from.ensures c.in_ok-add_expiry.ensures.addition.ok in
     record {
       expired = subst (λ j. IsExpiring c.args.moment start j (c.loop-count.count + 1)) (sym added) next;
-      clock = c.add_expiry.ensures.clock ∙ c.loop-count.invariant.clock;
-      kept = c.add_expiry.ensures.kept ∙ c.loop-count.invariant.kept;
+      clock = c.add_expiry.ensures.addition.clock ∙ c.loop-count.invariant.clock;
+      kept = c.add_expiry.ensures.addition.kept ∙ c.loop-count.invariant.kept;
+      rest = c.add_expiry.ensures.rest ∙ c.loop-count.invariant.rest;
     }

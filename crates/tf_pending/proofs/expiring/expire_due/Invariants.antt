@@ -9,4 +9,5 @@ invariant-loop-count g l =
       expired : IsExpiring l.moment (g.L.Ledger.journal l.initial.ledger) (g.L.Ledger.journal l.ledger) l.count;
       clock : g.L.Ledger.clock l.ledger ≡ g.L.Ledger.clock l.initial.ledger;
       kept : g.L.Ledger.kept l.ledger ≡ g.L.Ledger.kept l.initial.ledger;
+      rest : g.L.Ledger.rest l.ledger ≡ g.L.Ledger.rest l.initial.ledger;
     }

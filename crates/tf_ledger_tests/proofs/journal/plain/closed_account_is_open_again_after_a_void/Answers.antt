@@ -11,15 +11,15 @@ add_account-requires g c =
 
 pub add_account-requires-2 : goal.add_account-requires-2
 add_account-requires-2 g c =
-    rw (c.in_ok-add_account.ensures.ok, c.new-ledger.ensures.journal)
+    rw (c.in_ok-add_account.ensures.addition.ok, c.new-ledger.ensures.journal)
     (account_grows (entry.Account CASH ∷ []) (record SALES { timestamp = 0 }) SALES refl refl refl refl)
 
 pub add_transfer-requires : goal.add_transfer-requires
 add_transfer-requires g c =
-    rw (c.in_ok-add_account-2.ensures.ok, c.in_ok-add_account.ensures.ok, c.new-ledger.ensures.journal)
+    rw (c.in_ok-add_account-2.ensures.addition.ok, c.in_ok-add_account.ensures.addition.ok, c.new-ledger.ensures.journal)
     (transfer_grows (entry.Account CASH ∷ entry.Account SALES ∷ []) (record CLOSE { timestamp = 0 }) CLOSE refl refl refl refl)
 
 pub add_transfer-requires-2 : goal.add_transfer-requires-2
 add_transfer-requires-2 g c =
-    rw (c.in_ok-add_transfer.ensures.ok, c.in_ok-add_account-2.ensures.ok, c.in_ok-add_account.ensures.ok, c.new-ledger.ensures.journal)
+    rw (c.in_ok-add_transfer.ensures.addition.ok, c.in_ok-add_account-2.ensures.addition.ok, c.in_ok-add_account.ensures.addition.ok, c.new-ledger.ensures.journal)
     (transfer_grows (entry.Account CASH ∷ entry.Account SALES ∷ entry.Transfer CLOSE ∷ []) (record REOPEN { timestamp = 0 }) REOPEN refl refl refl refl)
