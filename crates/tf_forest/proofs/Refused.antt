@@ -1,5 +1,5 @@
 -- What a publish that isn't settled leaves of a forest, and what one that is settled does.
-use Rattle.std.proofs.Common.{◌≡◌, ◌≢◌, ℕ, List, [], Some, None, refl, sym, ◌∙◌, ◌+◌, ap, subst, arith}
+use Rattle.std.proofs.Common.{◌≡◌, ◌≢◌, ℕ, List, [], Some, None, sym, ◌∙◌, ◌+◌, ap, subst}
 use Rattle.tf_journal.specs.declared.entry.Entry.{Entry}
 use Rattle.tf_table.specs.declared.key.Key.{Key}
 use Rattle.tf_table.specs.Content.{entry_at}
@@ -14,6 +14,7 @@ use Rattle.tf_rows.specs.Nest.{LogsHaveValues}
 use Rattle.tf_rows.specs.Next.{content_in}
 use Rattle.tf_rows.specs.Parts.{Entries, Part, parts_of, value_of_part}
 use Rattle.tf_publish.specs.Publish.{entries_waiting, tables_needed}
+use Rattle.tf_publish.specs.Tables.{listed}
 use Rattle.tf_forest.specs.Unpublished.{IsUnpublished}
 use Rattle.tf_publish.proofs.PublishRows.{no_tombstone, parts_apart}
 use Rattle.tf_publish.proofs.Sealed.{found_sealed}
@@ -34,43 +35,21 @@ module _ (fresh after : Entries) (old new : Sealed) (most : ℕ) (same : after �
   logs_stay values r log key = subst (λ (f : Entries). entry_at key (f r) ≢ Some None) (sym same) (values r log key)
 
   pub unpublished : (clock kept : ℕ) (view : View)
-      → record { journal = journal_in (parts_of fresh old.tables); sealed = old; needed = tables_needed fresh old.tables; waiting = entries_waiting fresh; clock = clock; kept = kept } ≡ view
+      → record { journal = journal_in (parts_of fresh old.tables); sealed = old; fresh = listed fresh; needed = tables_needed fresh old.tables; waiting = entries_waiting fresh; clock = clock; kept = kept } ≡ view
       → most ≡ view.needed → journal_in (parts_of after new.tables) ≡ journal_in (parts_of fresh old.tables)
-      → IsUnpublished view (record { journal = journal_in (parts_of after new.tables); sealed = new; needed = tables_needed after new.tables; waiting = entries_waiting after; clock = clock; kept = kept })
+      → IsUnpublished view (record { journal = journal_in (parts_of after new.tables); sealed = new; fresh = listed after; needed = tables_needed after new.tables; waiting = entries_waiting after; clock = clock; kept = kept })
   unpublished clock kept view is all journal =
-      let seen : List Entry → ℕ → ℕ → View = λ j n w. record { journal = j; sealed = new; needed = n; waiting = w; clock = clock; kept = kept } in
+      let seen : List Entry → Entries → ℕ → View = λ j f n. record { journal = j; sealed = new; fresh = listed f; needed = n; waiting = entries_waiting f; clock = clock; kept = kept } in
       let was : List Entry = journal_in (parts_of fresh old.tables) in
-      let now : View = seen (journal_in (parts_of after new.tables)) (tables_needed after new.tables) (entries_waiting after) in
-      let left : now ≡ seen was (tables_needed fresh old.tables) (entries_waiting fresh) =
-      ap (λ (j : List Entry). seen j (tables_needed after new.tables) (entries_waiting after)) journal
-      ∙ ap (λ (f : Entries). seen was (tables_needed f new.tables) (entries_waiting f)) same
-      ∙ ap (λ (v : Tables). seen was (tables_needed fresh v) (entries_waiting fresh)) tables in
+      let now : View = seen (journal_in (parts_of after new.tables)) after (tables_needed after new.tables) in
+      let left : now ≡ seen was fresh (tables_needed fresh old.tables) =
+      ap (λ (j : List Entry). seen j after (tables_needed after new.tables)) journal
+      ∙ ap (λ (f : Entries). seen was f (tables_needed f new.tables)) same
+      ∙ ap (λ (v : Tables). seen was fresh (tables_needed fresh v)) tables in
       record {
         is = left ∙ ap (λ (v : View). record v { sealed = new }) is;
         loses = subst (λ (n : ℕ). Loses view.sealed new n) all (subst (λ (s : Sealed). Loses s new most) (ap (λ (v : View). v.sealed) is) loses);
       }
-
--- nothing was pushed
-pub nothing_lost : (sealed : Sealed) (most : ℕ) → Loses sealed sealed most
-nothing_lost sealed most =
-    let seen : ℕ → ℕ → ℕ → ℕ → Sealed = λ n r h p. record {
-      tables = record sealed.tables { pushed = record { count = n; limit = sealed.tables.pushed.limit } };
-      counts = record { rows_sealed = r; rows_held = h; publishes = p };
-    } in
-    let count = sealed.tables.pushed.count in
-    let counts = sealed.counts in
-    let same : (n : ℕ) → n ≡ n + 0 = λ n. omega arith in
-    record {
-      tables = 0;
-      rows = 0;
-      is =
-          ap (λ (n : ℕ). seen n counts.rows_sealed counts.rows_held counts.publishes) (same count)
-          ∙ ap (λ (n : ℕ). seen (count + 0) n counts.rows_held counts.publishes) (same counts.rows_sealed)
-          ∙ ap (λ (n : ℕ). seen (count + 0) (counts.rows_sealed + 0) n counts.publishes) (same counts.rows_held)
-          ∙ ap (λ (n : ℕ). seen (count + 0) (counts.rows_sealed + 0) (counts.rows_held + 0) n) (same counts.publishes);
-      few = omega arith;
-      none = λ none. refl;
-    }
 
 -- mutable tables without entries in front of tables that alone show the journal
 module _ (after : Entries) (new : Tables) (none : (r : Row) → after r ≡ []) where

@@ -1,5 +1,6 @@
 -- The notes that take the last entries of the journal that rows spell back.
-use Rattle.std.specs.Prelude.{◌≡◌, ◌+◌, ℕ, List, [], ◌∷◌, ◌++◌, length, take, ⊤, Bool}
+use Rattle.std.specs.Prelude.{◌≡◌, ◌+◌, ℕ, List, [], ◌∷◌, ◌++◌, length, take, Option, ⊤, Bool}
+use Rattle.tf_table.specs.declared.key.Key.{Key}
 use Rattle.tf_journal.specs.declared.entry.Entry.{Entry}
 use Rattle.tf_journal.specs.Journal.{IsUpTo}
 use Rattle.tf_manifest.specs.declared.row.Row.{Row}
@@ -57,11 +58,13 @@ pub record IsCut (old new : List Entry) (count : ℕ) : Type 0 where
   pub is : old ≡ new ++ undone
   pub many : length undone ≡ count
 
--- what contracts see of a forest: its journal, its rows' sealed tables with what was counted of them, how many tables a
--- publish would push, how many entries it would seal, the clock, and how many entries of the journal stand for good
+-- what contracts see of a forest: its journal, its rows' sealed tables with what was counted of them, what its mutable tables
+-- have, row by row, how many tables a publish would push, how many entries it would seal, the clock, and how many entries of
+-- the journal stand for good
 pub record View : Type 0 where
   pub journal : List Entry
   pub sealed : Sealed
+  pub fresh : List (List (Key × Option Value))
   pub needed : ℕ
   pub waiting : ℕ
   pub clock : ℕ

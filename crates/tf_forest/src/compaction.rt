@@ -36,6 +36,7 @@ impl<'r, F: MutableRows + Drop, A: Allocator + Copy, N: Naming> Forest<Rows<'r, 
         ensures journal { self.new.journal ≡ self.old.journal }
         ensures clock_kept { self.new.clock ≡ self.old.clock }
         ensures length_kept { self.new.kept ≡ self.old.kept }
+        ensures entries { (self.new.fresh ≡ self.old.fresh) × (self.new.waiting ≡ self.old.waiting) }
         ensures installs { OnOk result (InstallsIn self.old.sealed.tables merged.entry self.new.sealed.tables) }
         ensures content { (row : Row) (key : Key) → content_in self.new.sealed.tables row key ≡ content_in self.old.sealed.tables row key }
         ensures counts { OnOk result (self.new.sealed.counts ≡ record self.old.sealed.counts { rows_held = self.old.sealed.counts.rows_held + length (output_of merged.entry).table.rows }) }

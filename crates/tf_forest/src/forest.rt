@@ -5,6 +5,7 @@ ghost use Rattle.tf_rows.specs.Spelled.{ShowTheirJournal, journal_in};
 ghost use Rattle.tf_rows.specs.Nest.{AreEmpty};
 ghost use Rattle.tf_rows.specs.Parts.{fresh_in};
 ghost use Rattle.tf_publish.specs.Publish.{entries_waiting, tables_needed};
+ghost use Rattle.tf_publish.specs.Tables.{Waits, listed, nothing_fresh};
 ghost use Rattle.tf_journal.specs.declared.entry.Entry.{Entry};
 ghost use Rattle.tf_journal.specs.Journal.{IsUpTo, is_failed};
 ghost use Rattle.tf_journal.specs.Laws.{IsWithinLimits};
@@ -53,8 +54,9 @@ impl<S: AllRows + Drop, A: Allocator + Copy> Model for Forest<S, A> {
     ghost use Rattle.tf_rows.specs.Spelled.{journal_in};
     ghost use Rattle.tf_rows.specs.Parts.{fresh_in};
     ghost use Rattle.tf_publish.specs.Publish.{entries_waiting, tables_needed};
+    ghost use Rattle.tf_publish.specs.Tables.{listed};
 
-    ghost view = { λ f. record { journal = journal_in (S.parts f.rows); sealed = S.sealed f.rows; needed = tables_needed (fresh_in (S.parts f.rows)) (S.sealed f.rows).tables; waiting = entries_waiting (fresh_in (S.parts f.rows)); clock = f.clock; kept = f.kept } };
+    ghost view = { λ f. record { journal = journal_in (S.parts f.rows); sealed = S.sealed f.rows; fresh = listed (fresh_in (S.parts f.rows)); needed = tables_needed (fresh_in (S.parts f.rows)) (S.sealed f.rows).tables; waiting = entries_waiting (fresh_in (S.parts f.rows)); clock = f.clock; kept = f.kept } };
 
     ghost invariant = { λ f. IsForest S.has_row S.fits S.takes_any (S.parts f.rows) f.notes.items f.kept f.clock f.floors f.resident };
 }
@@ -69,6 +71,8 @@ impl<S: AllRows + Drop, A: Allocator + Copy> Forest<S, A> {
         ensures clock { result.clock ≡ 0 }
         ensures kept { result.kept ≡ 0 }
         ensures sealed { result.sealed ≡ S.sealed rows }
+        ensures fresh { result.fresh ≡ nothing_fresh }
+        ensures nothing { (result.needed ≡ 0) × (result.waiting ≡ 0) }
     {
         rows_spell_the_journal_they_show();
         Forest {
@@ -88,6 +92,7 @@ impl<S: AllRows + Drop, A: Allocator + Copy> Forest<S, A> {
         ensures journal { journal_in (S.parts result.now) ≡ self.now.journal }
         ensures shows { ShowTheirJournal (S.parts result.now) }
         ensures kept { self.now.kept ≤ length self.now.journal }
+        ensures fresh { listed (fresh_in (S.parts result.now)) ≡ self.now.fresh }
         ensures needed { tables_needed (fresh_in (S.parts result.now)) (S.sealed result.now).tables ≡ self.now.needed }
         ensures waiting { entries_waiting (fresh_in (S.parts result.now)) ≡ self.now.waiting }
         ensures sealed { S.sealed result.now ≡ self.now.sealed }
@@ -96,12 +101,14 @@ impl<S: AllRows + Drop, A: Allocator + Copy> Forest<S, A> {
     }
 
     /// What always holds of the journal: it is sound and within limits, what is kept of it is there, and none of that is
-    /// younger than the clock. It does nothing.
+    /// younger than the clock; and how many tables a publish needs, and how many entries it seals, by what the mutable tables
+    /// have. It does nothing.
     pub fn facts(&self)
         ensures sound { IsSound self.now.journal }
         ensures limits { IsWithinLimits self.now.journal }
         ensures kept { self.now.kept ≤ length self.now.journal }
         ensures up_to { IsUpTo self.now.clock (take self.now.kept self.now.journal) }
+        ensures waits { Waits self.now.fresh self.now.sealed.tables self.now.needed self.now.waiting }
     {
         journals_are_within_limits();
         // Only a field that is read tells what holds of the whole.
@@ -279,6 +286,7 @@ impl<S: AllRows + Drop, A: Allocator + Copy> Forest<S, A> {
         ensures clock { self.new.clock ≡ moment }
         ensures all_kept { self.new.kept ≡ length self.old.journal }
         ensures sealed { self.new.sealed ≡ self.old.sealed }
+        ensures rest { self.new ≡ record self.old { clock = moment; kept = length self.old.journal } }
     {
         let first = self.rows.first_from(Row::Expiry, &self.floors.present);
         self.floors = Floors::at(first);

@@ -12,7 +12,7 @@ use Rattle.tf_manifest.specs.Table.{Shown}
 use Rattle.tf_manifest.specs.View.{StoredBy, View, no_tables, tables_by}
 use Rattle.tf_rows.specs.declared.sealed_row.SealedRow.{SealedRow}
 use Rattle.tf_rows.specs.declared.counts.Counts.{Counts}
-use Rattle.tf_rows.specs.Counts.{Counted, HasPublishes, IsCounted, Loses, PushesMore, Sealed, all_references, counted}
+use Rattle.tf_rows.specs.Counts.{Counted, HasPublishes, IsCounted, Loses, PushesMore, Sealed, all_references, counted, with_lost}
 use Rattle.tf_rows.specs.SealedRow.{PushesIn, entries_of_sealed, kind_of_sealed}
 use Rattle.tf_publish.proofs.Measures.{installed_one, installed_owed, installed_references, installed_short, pushed_one, pushed_owed, pushed_short, tables_apart}
 
@@ -113,26 +113,34 @@ module _ (old : Sealed) (copy : Counted) (more : PushesMore (counted old) copy) 
     counts = record { rows_sealed = old.counts.rows_sealed + (copy.held - old.counts.rows_held); rows_held = copy.held; publishes = publishes };
   }
 
-  pub lost : (publishes : ℕ) → publishes ≡ old.counts.publishes + cond ((copy.tables.pushed.count - old.tables.pushed.count) == 0) 0 1 → Loses old (with_counts publishes) (copy.tables.pushed.count - old.tables.pushed.count)
-  lost publishes all =
-      let d : ℕ = copy.tables.pushed.count - old.tables.pushed.count in
+  abbrev pub count_entries : ℕ
+  count_entries = copy.held - old.counts.rows_held
+
+  pub lost_is : (publishes : ℕ) → publishes ≡ old.counts.publishes + cond (count_pushes == 0) 0 1 → with_counts publishes ≡ with_lost count_pushes count_entries old
+  lost_is publishes all =
+      let d : ℕ = count_pushes in
       let tables : old.tables.pushed.count ≤ copy.tables.pushed.count = more.tables in
       let held : old.counts.rows_held ≤ copy.held = more.held in
-      let most : copy.held + old.tables.pushed.count * 2 ^ 64 ≤ old.counts.rows_held + copy.tables.pushed.count * 2 ^ 64 = more.most in
       let count_is : copy.tables.pushed.count ≡ old.tables.pushed.count + (copy.tables.pushed.count - old.tables.pushed.count) = omega (arith, tables) in
       let held_is : copy.held ≡ old.counts.rows_held + (copy.held - old.counts.rows_held) = omega (arith, held) in
       let seen : ℕ → ℕ → ℕ → ℕ → Sealed = λ n l h p. record {
         tables = record old.tables { pushed = record { count = n; limit = l } };
         counts = record { rows_sealed = old.counts.rows_sealed + (copy.held - old.counts.rows_held); rows_held = h; publishes = p };
       } in
+      ap (λ (n : ℕ). seen n copy.tables.pushed.limit copy.held publishes) count_is
+      ∙ ap (λ (n : ℕ). seen (old.tables.pushed.count + d) n copy.held publishes) more.limit
+      ∙ ap (λ (n : ℕ). seen (old.tables.pushed.count + d) old.tables.pushed.limit n publishes) held_is
+      ∙ ap (λ (n : ℕ). seen (old.tables.pushed.count + d) old.tables.pushed.limit (old.counts.rows_held + (copy.held - old.counts.rows_held)) n) all
+
+  pub lost : (publishes : ℕ) → publishes ≡ old.counts.publishes + cond (count_pushes == 0) 0 1 → Loses old (with_counts publishes) count_pushes
+  lost publishes all =
+      let tables : old.tables.pushed.count ≤ copy.tables.pushed.count = more.tables in
+      let held : old.counts.rows_held ≤ copy.held = more.held in
+      let most : copy.held + old.tables.pushed.count * 2 ^ 64 ≤ old.counts.rows_held + copy.tables.pushed.count * 2 ^ 64 = more.most in
       record {
-        tables = copy.tables.pushed.count - old.tables.pushed.count;
-        rows = copy.held - old.counts.rows_held;
-        is =
-            ap (λ (n : ℕ). seen n copy.tables.pushed.limit copy.held publishes) count_is
-            ∙ ap (λ (n : ℕ). seen (old.tables.pushed.count + d) n copy.held publishes) more.limit
-            ∙ ap (λ (n : ℕ). seen (old.tables.pushed.count + d) old.tables.pushed.limit n publishes) held_is
-            ∙ ap (λ (n : ℕ). seen (old.tables.pushed.count + d) old.tables.pushed.limit (old.counts.rows_held + (copy.held - old.counts.rows_held)) n) all;
+        tables = count_pushes;
+        rows = count_entries;
+        is = lost_is publishes all;
         few = omega arith;
         none = λ none. omega (arith, tables, held, most, none);
       }
@@ -145,6 +153,34 @@ loses_no_more old new most more loses within = record {
   few = let few = loses.few in omega (arith, few, within);
   none = loses.none;
 }
+
+-- nothing was pushed
+pub none_lost : (sealed : Sealed) → sealed ≡ with_lost 0 0 sealed
+none_lost sealed =
+    let seen : ℕ → ℕ → ℕ → ℕ → Sealed = λ n r h p. record {
+      tables = record sealed.tables { pushed = record { count = n; limit = sealed.tables.pushed.limit } };
+      counts = record { rows_sealed = r; rows_held = h; publishes = p };
+    } in
+    let count = sealed.tables.pushed.count in
+    let counts = sealed.counts in
+    let same : (n : ℕ) → n ≡ n + 0 = λ n. omega arith in
+    ap (λ (n : ℕ). seen n counts.rows_sealed counts.rows_held counts.publishes) (same count)
+    ∙ ap (λ (n : ℕ). seen (count + 0) n counts.rows_held counts.publishes) (same counts.rows_sealed)
+    ∙ ap (λ (n : ℕ). seen (count + 0) (counts.rows_sealed + 0) n counts.publishes) (same counts.rows_held)
+    ∙ ap (λ (n : ℕ). seen (count + 0) (counts.rows_sealed + 0) (counts.rows_held + 0) n) (same counts.publishes)
+
+pub nothing_lost : (sealed : Sealed) (most : ℕ) → Loses sealed sealed most
+nothing_lost sealed most = record { tables = 0; rows = 0; is = none_lost sealed; few = omega arith; none = λ none. refl }
+
+-- where nothing could be, all is as it was
+pub loses_nothing : (old new : Sealed) (most : ℕ) → Loses old new most → most ≡ 0 → new ≡ old
+loses_nothing old new most loses nothing =
+    let few = loses.few in
+    let tables : loses.tables ≡ 0 = omega (arith, few, nothing) in
+    loses.is
+    ∙ ap (λ (t : ℕ). with_lost t loses.rows old) tables
+    ∙ ap (λ (r : ℕ). with_lost 0 r old) (loses.none tables)
+    ∙ sym (none_lost old)
 
 -- publishes are one more where a table was pushed
 publishes_are : (p t : ℕ) → ((t ≡ 0) × (p + cond (t == 0) 0 1 ≡ p)) ⊎ ((0 < t) × (p + cond (t == 0) 0 1 ≡ p + 1))

@@ -98,7 +98,7 @@ module _ {A : Type 0} (old new : View) (s : SealedRow A) (pushes : PushesIn old 
   abbrev front : List (Shown (StoredBy (kind_of_sealed s)))
   front = shown pushes.adds.number (record { rows = entries_of_sealed s; level = 0; oldest = is_nil (tables_by old (kind_of_sealed s)) }) ∷ tables_by old (kind_of_sealed s)
 
-  becomes : new ≡ with_rows (record old { pushed = one_more old.pushed }) (kind_of_sealed s) (slice_set (rows_by old (kind_of_sealed s)) (place_by (kind_of_sealed s)) front)
+  pub becomes : new ≡ with_rows (record old { pushed = one_more old.pushed }) (kind_of_sealed s) (slice_set (rows_by old (kind_of_sealed s)) (place_by (kind_of_sealed s)) front)
   becomes = pushes.is ∙ ap (λ (rows : List (List (Shown (StoredBy (kind_of_sealed s))))). with_rows (record old { pushed = one_more old.pushed }) (kind_of_sealed s) rows) pushes.adds.is
 
   pub pushed_one : new.pushed ≡ one_more old.pushed
@@ -147,11 +147,11 @@ module _ {A N : Type 0} (old new : View) (m : Merged A N) (installs : InstallsIn
   abbrev into : List (Shown (StoredBy (kind_of_merged m)))
   into = installs.installs.tables
 
-  installed : new ≡ with_rows (record old { pushed = one_more old.pushed }) (kind_of_merged m) (slice_set (rows_by old (kind_of_merged m)) (place_by (kind_of_merged m)) into)
+  pub installed : new ≡ with_rows (record old { pushed = one_more old.pushed }) (kind_of_merged m) (slice_set (rows_by old (kind_of_merged m)) (place_by (kind_of_merged m)) into)
   installed = installs.is ∙ ap (λ (rows : List (List (Shown (StoredBy (kind_of_merged m))))). with_rows (record old { pushed = one_more old.pushed }) (kind_of_merged m) rows) installs.installs.is
 
-  within : place_by (kind_of_merged m) < length (rows_by old (kind_of_merged m))
-  within = let less = installs.installs.installs.one_less in placed (rows_by old (kind_of_merged m)) (place_by (kind_of_merged m)) (omega (arith, less))
+  pub has_place : place_by (kind_of_merged m) < length (rows_by old (kind_of_merged m))
+  has_place = let less = installs.installs.installs.one_less in placed (rows_by old (kind_of_merged m)) (place_by (kind_of_merged m)) (omega (arith, less))
 
   pub installed_one : new.pushed ≡ one_more old.pushed
   installed_one = ap (λ (v : View). v.pushed) installs.is ∙ pushed_with (record old { pushed = one_more old.pushed }) (kind_of_merged m) installs.rows
@@ -159,7 +159,7 @@ module _ {A N : Type 0} (old new : View) (m : Merged A N) (installs : InstallsIn
   pub installed_owed : (count : ℕ) → HasEntries m count → owed new + count ≤ owed old
   installed_owed count has =
       let all = ap owed installed in
-      let one = changed (λ V tables. owed_by tables) old (one_more old.pushed) (kind_of_merged m) into within in
+      let one = changed (λ V tables. owed_by tables) old (one_more old.pushed) (kind_of_merged m) into has_place in
       let less = merge_owed (tables_by old (kind_of_merged m)) into (output_of m).run (output_of m).table installs.installs.installs has.run has.merges in
       let own = has.entries in
       omega (arith, all, one, less, own)
@@ -167,7 +167,7 @@ module _ {A N : Type 0} (old new : View) (m : Merged A N) (installs : InstallsIn
   pub installed_references : all_references new + 1 ≡ all_references old
   installed_references =
       let all = ap all_references installed in
-      let one = changed (λ V tables. length tables) old (one_more old.pushed) (kind_of_merged m) into within in
+      let one = changed (λ V tables. length tables) old (one_more old.pushed) (kind_of_merged m) into has_place in
       let less = installs.installs.installs.one_less in
       omega (arith, all, one, less)
 

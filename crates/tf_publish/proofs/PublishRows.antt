@@ -45,7 +45,7 @@ starts fresh view = record {
   limit = refl;
 }
 
-place_within : (r : Row) → place_of r < 21
+pub place_within : (r : Row) → place_of r < 21
 place_within = elim [
   | row.AccountObjects ↦ omega arith
   | row.AccountIds ↦ omega arith

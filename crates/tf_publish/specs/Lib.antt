@@ -1,1 +1,3 @@
 pub mod Publish
+pub mod Tables
+pub mod Partly

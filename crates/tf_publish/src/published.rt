@@ -1,6 +1,6 @@
 //! The sealed tables that publishes left, and those that one prepares.
 ghost use Rattle.std.specs.Prelude.{◌≡◌, ◌+◌, ◌-◌, ◌<◌, ◌≤◌, ◌==◌, length, OnOk, OnErr, IfErr, if◌then◌else◌};
-ghost use Rattle.tf_rows.specs.Counts.{AreBounded, HasPublishes, IsReady, Loses, PushesMore, counted, nothing_sealed, settled};
+ghost use Rattle.tf_rows.specs.Counts.{AreBounded, HasPublishes, IsReady, Loses, PushesMore, counted, nothing_sealed, settled, with_lost};
 ghost use Rattle.tf_manifest.specs.Install.{IfNoMemory, OnFull, OnStale};
 ghost use Rattle.tf_manifest.specs.Jobs.{InstallsIn, StandsIn, output_of};
 ghost use Rattle.tf_manifest.specs.Registries.{AreShelves};
@@ -128,6 +128,7 @@ impl<'r, A: Allocator, N: Naming> Published<'r, A, N> {
         ensures pushed { self.new.tables.pushed ≡ copy.now.tables.pushed }
         ensures held { self.new.counts.rows_held ≡ copy.now.held }
         ensures loses { Loses self.old self.new (copy.now.tables.pushed.count - self.old.tables.pushed.count) }
+        ensures lost { self.new ≡ with_lost (copy.now.tables.pushed.count - self.old.tables.pushed.count) (copy.now.held - self.old.counts.rows_held) self.old }
     {
         let before = self.manifest().pushed();
         let after = copy.manifest().pushed();

@@ -1,8 +1,10 @@
 //! The tables that a publish pushes.
 ghost use Rattle.std.specs.Prelude.{◌≡◌, ◌+◌, ◌<◌, ◌≤◌, false, IfOk, IfErr, IsOk, IsTrue};
-ghost use Rattle.tf_rows.specs.Counts.{IsReady, Loses};
+ghost use Rattle.tf_rows.specs.Counts.{IsReady, Loses, counted};
 ghost use Rattle.tf_rows.specs.Parts.{parts_of, value_of_part};
 ghost use Rattle.tf_publish.specs.Publish.{entries_waiting, tables_needed};
+ghost use Rattle.tf_publish.specs.Partly.{CountsParts};
+ghost use Rattle.tf_publish.specs.Tables.{Publishes};
 ghost use Rattle.tf_manifest.specs.View.{content_in};
 ghost use Rattle.tf_manifest.specs.declared.row.Row.{Row};
 ghost use Rattle.tf_table.specs.declared.key.Key.{Key};
@@ -31,8 +33,9 @@ pub fn has_room<'r, F: SealRows<A> + Drop, A: Allocator + Copy, N: Naming>(
 /// Seals each mutable table that has an entry, and puts it in front of its row's sealed tables in a copy of these. Where a
 /// row is full, its run that is to be merged next is merged in the copy first.
 ///
-/// The only refusal is `NoMemory`, and there is none where no mutable table has an entry. Whatever it answers, the rows have what they had, and what was pushed is counted, all its
-/// entries as sealed and as held.
+/// The only refusal is `NoMemory`, and there is none where no mutable table has an entry: then nothing is pushed, and the
+/// copy is equal. Whatever it answers, the rows have what they had, and what was pushed is counted, all its entries as
+/// sealed and as held.
 pub fn prepare_rows<'r, R: Wait, F: SealRows<A> + Drop, A: Allocator + Copy, N: Naming>(
     rt: &R,
     rows: &mut Rows<'r, F, A, N>,
@@ -40,12 +43,16 @@ pub fn prepare_rows<'r, R: Wait, F: SealRows<A> + Drop, A: Allocator + Copy, N: 
 ) -> Result<Prepared<'r, A, N>, Refusal>
     requires { rows.old.published.tables.pushed.count + tables_needed (F.entries rows.old.fresh) rows.old.published.tables ≤ rows.old.published.tables.pushed.limit }
     ensures content { IfOk result (λ p. (r : Row) (key : Key) → content_in p.tables r key ≡ value_of_part (parts_of (F.entries rows.old.fresh) rows.old.published.tables r) key) }
+    ensures publishes { IfOk result (λ p. Publishes (F.entries rows.old.fresh) (counted rows.old.published) p) }
     ensures count { IfOk result (λ p. p.tables.pushed.count ≡ rows.old.published.tables.pushed.count + tables_needed (F.entries rows.old.fresh) rows.old.published.tables) }
     ensures sealed { IfOk result (λ p. p.sealed ≡ rows.old.published.counts.rows_sealed + entries_waiting (F.entries rows.old.fresh)) }
     ensures ready { IfOk result (IsReady rows.new.published) }
     ensures fresh { F.entries rows.new.fresh ≡ F.entries rows.old.fresh }
     ensures loses { Loses rows.old.published rows.new.published (tables_needed (F.entries rows.old.fresh) rows.old.published.tables) }
+    ensures parts { CountsParts (F.entries rows.old.fresh) rows.old.published rows.new.published }
     ensures idle { entries_waiting (F.entries rows.old.fresh) ≡ 0 → IsOk result }
+    ensures still { entries_waiting (F.entries rows.old.fresh) ≡ 0 → rows.new.published ≡ rows.old.published }
+    ensures equal { IfOk result (λ p. entries_waiting (F.entries rows.old.fresh) ≡ 0 → p ≡ counted rows.old.published) }
     ensures refusal { IfErr result (λ refusal. refusal ≡ Refusal.NoMemory) }
 {
     // Only the count tells what it bounds.

@@ -3,6 +3,8 @@ ghost use Rattle.std.specs.Prelude.{◌≡◌, ◌+◌, ◌<◌, ◌≤◌, leng
 ghost use Rattle.tf_rows.specs.Counts.{PushesMore, all_references};
 ghost use Rattle.tf_rows.specs.Parts.{parts_of, place_of, value_of_part};
 ghost use Rattle.tf_publish.specs.Publish.{MakesRoom, PublishesRow, entries_waiting, needed_for, tables_needed};
+ghost use Rattle.tf_publish.specs.Partly.{PublishesPartIn, PublishesParts};
+ghost use Rattle.tf_publish.specs.Tables.{MakesPlaceIn, Publishes, PublishesIn};
 ghost use Rattle.tf_manifest.specs.View.{content_in, references_in};
 ghost use Rattle.tf_manifest.specs.declared.row.Row.{Row};
 ghost use Rattle.tf_table.specs.declared.key.Key.{Key};
@@ -25,6 +27,7 @@ fn make_room<'r, R: Wait, A: Allocator + Copy, N: Naming>(
 ) -> Result<(), Refusal>
     requires { references_in next.old.tables row ≡ 64 → next.old.tables.pushed.count < next.old.tables.pushed.limit }
     ensures room { OnOk result (MakesRoom row next.old.tables next.new.tables) }
+    ensures place { OnOk result (MakesPlaceIn row next.old next.new) }
     ensures few { OnOk result (references_in next.new.tables row < 64) }
     ensures sealed { next.new.sealed ≡ next.old.sealed }
     ensures more { PushesMore next.old next.new }
@@ -62,11 +65,14 @@ fn push_row<'r, R: Wait, F: SealRows<A>, A: Allocator + Copy, N: Naming>(
 ) -> Result<(), Refusal>
     requires { next.old.tables.pushed.count + needed_for (F.entries fresh.old row) (references_in next.old.tables row) ≤ next.old.tables.pushed.limit }
     ensures publishes { OnOk result (PublishesRow (F.entries fresh.old) row next.old.tables next.new.tables) }
+    ensures tables { OnOk result (PublishesIn (F.entries fresh.old) row next.old next.new) }
     ensures sealed { OnOk result (next.new.sealed ≡ next.old.sealed + length (F.entries fresh.old row)) }
     ensures fresh { F.entries fresh.new ≡ F.entries fresh.old }
     ensures more { PushesMore next.old next.new }
     ensures most { next.new.tables.pushed.count ≤ next.old.tables.pushed.count + needed_for (F.entries fresh.old row) (references_in next.old.tables row) }
     ensures idle { length (F.entries fresh.old row) ≡ 0 → IsOk result }
+    ensures still { length (F.entries fresh.old row) ≡ 0 → next.new ≡ next.old }
+    ensures part { PublishesPartIn (F.entries fresh.old) row next.old next.new }
     ensures refusal { IfErr result (λ refusal. refusal ≡ Refusal.NoMemory) }
 {
     if fresh.has_none(row) {
@@ -134,6 +140,7 @@ pub(crate) fn push_rows<'r, R: Wait, F: SealRows<A>, A: Allocator + Copy, N: Nam
 ) -> Result<(), Refusal>
     requires { next.old.tables.pushed.count + tables_needed (F.entries fresh.old) next.old.tables ≤ next.old.tables.pushed.limit }
     ensures content { OnOk result ((r : Row) (key : Key) → content_in next.new.tables r key ≡ value_of_part (parts_of (F.entries fresh.old) next.old.tables r) key) }
+    ensures publishes { OnOk result (Publishes (F.entries fresh.old) next.old next.new) }
     ensures count { OnOk result (next.new.tables.pushed.count ≡ next.old.tables.pushed.count + tables_needed (F.entries fresh.old) next.old.tables) }
     ensures sealed { OnOk result (next.new.sealed ≡ next.old.sealed + entries_waiting (F.entries fresh.old)) }
     ensures few { OnOk result (next.new.tables.pushed.count + all_references next.new.tables ≤ next.old.tables.pushed.count + all_references next.old.tables + 42) }
@@ -142,6 +149,8 @@ pub(crate) fn push_rows<'r, R: Wait, F: SealRows<A>, A: Allocator + Copy, N: Nam
     ensures more { PushesMore next.old next.new }
     ensures most { next.new.tables.pushed.count ≤ next.old.tables.pushed.count + tables_needed (F.entries fresh.old) next.old.tables }
     ensures idle { entries_waiting (F.entries fresh.old) ≡ 0 → IsOk result }
+    ensures still { entries_waiting (F.entries fresh.old) ≡ 0 → next.new ≡ next.old }
+    ensures parts { PublishesParts (F.entries fresh.old) next.old next.new }
     ensures refusal { IfErr result (λ refusal. refusal ≡ Refusal.NoMemory) }
 {
     for number in 0..Row::ALL.len() {

@@ -2,10 +2,12 @@ use Rattle.std.proofs.Common.{◌≡◌, ◌+◌, ◌-◌, ◌≤◌, sym, ◌�
 use Rattle.tf_table.specs.declared.key.Key.{Key}
 use Rattle.tf_manifest.specs.declared.row.Row.{Row}
 use Rattle.tf_manifest.specs.View.{content_in}
-use Rattle.tf_rows.specs.Counts.{Counted, IsReady, PushesMore, all_references}
+use Rattle.tf_rows.specs.Counts.{Counted, IsReady, PushesMore, all_references, counted}
 use Rattle.tf_rows.specs.Parts.{Entries, parts_of, value_of_part}
 use Rattle.tf_publish.specs.Publish.{entries_waiting, tables_needed}
-use Rattle.tf_publish.proofs.Bounds.{few_ready, loses_no_more}
+use Rattle.tf_publish.specs.Partly.{PublishesParts}
+use Rattle.tf_publish.specs.Tables.{Publishes}
+use Rattle.tf_publish.proofs.Bounds.{few_ready, loses_no_more, loses_nothing}
 use Rattle.tf_publish.proofs.PublishRows.{all_few}
 use Rattle.tf_publish.proofs.publishing.prepare_rows.Goals as goal
 
@@ -65,3 +67,47 @@ returns-in-Err-clause-loses g c =
     let next : Counted = c.push_rows-answer.new.next in
     let most = subst (λ (t : Counted). next.tables.pushed.count ≤ t.tables.pushed.count + tables_needed fresh t.tables) c.copy-next.ensures c.push_rows-answer.ensures.most in
     loses_no_more c.args.rows.now.published c.count_pushed.new.self (next.tables.pushed.count - c.args.rows.now.published.tables.pushed.count) (tables_needed fresh c.args.rows.now.published.tables) c.count_pushed.ensures.loses (omega (arith, most))
+
+pub returns-in-Ok-clause-publishes : goal.returns-in-Ok-clause-publishes
+returns-in-Ok-clause-publishes g c =
+    let fresh : Entries = g.F.MutableRows.entries c.args.rows.now.fresh in
+    let next : Counted = c.push_rows-answer.new.next in
+    subst (λ (p : Counted). Publishes fresh (counted c.args.rows.now.published) p) (sym c.new.ensures)
+    (subst (λ (t : Counted). Publishes fresh t next) c.copy-next.ensures c.in-Ok.ensures.publishes)
+
+pub returns-in-Ok-clause-still : goal.returns-in-Ok-clause-still
+returns-in-Ok-clause-still g c = λ none.
+    let old = c.args.rows.now.published in
+    let next : Counted = c.push_rows-answer.new.next in
+    let same : next ≡ counted old = c.push_rows-answer.ensures.still none ∙ c.copy-next.ensures in
+    let count = ap (λ (t : Counted). t.tables.pushed.count) same in
+    loses_nothing old c.count_pushed.new.self (next.tables.pushed.count - old.tables.pushed.count) c.count_pushed.ensures.loses (omega (arith, count))
+
+pub returns-in-Err-clause-still : goal.returns-in-Err-clause-still
+returns-in-Err-clause-still g c = λ none.
+    let old = c.args.rows.now.published in
+    let next : Counted = c.push_rows-answer.new.next in
+    let same : next ≡ counted old = c.push_rows-answer.ensures.still none ∙ c.copy-next.ensures in
+    let count = ap (λ (t : Counted). t.tables.pushed.count) same in
+    loses_nothing old c.count_pushed.new.self (next.tables.pushed.count - old.tables.pushed.count) c.count_pushed.ensures.loses (omega (arith, count))
+
+pub returns-in-Ok-clause-equal : goal.returns-in-Ok-clause-equal
+returns-in-Ok-clause-equal g c = λ none. c.new.ensures ∙ c.push_rows-answer.ensures.still none ∙ c.copy-next.ensures
+
+pub returns-in-Ok-clause-parts : goal.returns-in-Ok-clause-parts
+returns-in-Ok-clause-parts g c =
+    let fresh : Entries = g.F.MutableRows.entries c.args.rows.now.fresh in
+    record {
+      copy = c.push_rows-answer.new.next;
+      parts = subst (λ (t : Counted). PublishesParts fresh t c.push_rows-answer.new.next) c.copy-next.ensures c.push_rows-answer.ensures.parts;
+      is = c.count_pushed.ensures.lost;
+    }
+
+pub returns-in-Err-clause-parts : goal.returns-in-Err-clause-parts
+returns-in-Err-clause-parts g c =
+    let fresh : Entries = g.F.MutableRows.entries c.args.rows.now.fresh in
+    record {
+      copy = c.push_rows-answer.new.next;
+      parts = subst (λ (t : Counted). PublishesParts fresh t c.push_rows-answer.new.next) c.copy-next.ensures c.push_rows-answer.ensures.parts;
+      is = c.count_pushed.ensures.lost;
+    }

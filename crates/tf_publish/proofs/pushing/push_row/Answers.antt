@@ -1,4 +1,4 @@
-use Rattle.std.proofs.Common.{◌≡◌, List, [], ◌∷◌, length, Result, Ok, Err, OnOk, true, refl, sym, ◌∙◌, ap, arith}
+use Rattle.std.proofs.Common.{◌≡◌, List, [], ◌∷◌, length, Result, Ok, Err, OnOk, true, refl, sym, ◌∙◌, ap, subst, arith}
 use Rattle.std.proofs.lemmas.Bool.{false≢true}
 use Rattle.std.proofs.lemmas.List.{length-map}
 use Rattle.tf_records.specs.declared.refusal.Refusal.{Refusal}
@@ -13,11 +13,18 @@ use Rattle.tf_rows.specs.Parts.{Entries, seen_row}
 use Rattle.tf_rows.specs.SealedRow.{IsSealedOf, entries_of_sealed, kind_of_sealed}
 use Rattle.tf_publish.proofs.Bounds.{more_and_more}
 use Rattle.tf_publish.proofs.OneRow.{idle, row_published}
+use Rattle.tf_publish.proofs.Partly.{no_part, part_by_all, part_by_place, part_by_push}
+use Rattle.tf_publish.proofs.Tables.{nothing_published, one_published}
+use Rattle.tf_publish.specs.Partly.{PublishesPartIn}
 use Rattle.tf_publish.proofs.pushing.push_row.Goals as goal
 
 on_ok : (r : Result (Unit {0}) Refusal) (P Q : Type 0) → (P → Q) → OnOk r P → OnOk r Q
 on_ok (Ok done) P Q f h = f h
 on_ok (Err refusal) P Q f h = tt
+
+on_both : (r : Result (Unit {0}) Refusal) (P Q R : Type 0) → (P → Q → R) → OnOk r P → OnOk r Q → OnOk r R
+on_both (Ok done) P Q R f p q = f p q
+on_both (Err refusal) P Q R f p q = tt
 
 pub returns-then-has_none-clause-publishes : goal.returns-then-has_none-clause-publishes
 returns-then-has_none-clause-publishes g c = idle (g.F.MutableRows.entries c.args.fresh.now) c.args.row c.args.next.now.tables (sym c.has_none.ensures ∙ c.if-has_none.true)
@@ -48,3 +55,42 @@ returns-in-Ok-make_room-clause-sealed g c =
 
 pub returns-in-Ok-make_room-clause-more : goal.returns-in-Ok-make_room-clause-more
 returns-in-Ok-make_room-clause-more g c = more_and_more c.args.next.now c.make_room.new.next c.push_in_front.new.self c.make_room.ensures.more c.push_in_front.ensures.more
+
+pub returns-then-has_none-clause-tables : goal.returns-then-has_none-clause-tables
+returns-then-has_none-clause-tables g c = nothing_published (g.F.MutableRows.entries c.args.fresh.now) c.args.row c.args.next.now (sym c.has_none.ensures ∙ c.if-has_none.true)
+
+pub returns-in-Ok-make_room-clause-tables : goal.returns-in-Ok-make_room-clause-tables
+returns-in-Ok-make_room-clause-tables g c =
+    let fresh = g.F.MutableRows.entries c.args.fresh.now in
+    let own = sealed_length {A = g.row.A.Denot} fresh c.args.row c.in-Ok.sealed c.in-Ok.ensures.sealed in
+    on_both c.push_in_front.result _ _ _
+    (λ pushes held. one_published {A = g.row.A.Denot} fresh c.args.row c.args.next.now c.make_room.new.next c.push_in_front.new.self c.in-Ok.sealed c.in-Ok.ensures.sealed c.in-Ok-make_room.ensures.place pushes (sym c.has_none.ensures ∙ c.if-has_none.false) (omega (arith, held, own)))
+    c.push_in_front.ensures.pushes c.push_in_front.ensures.held
+
+pub returns-then-has_none-clause-part : goal.returns-then-has_none-clause-part
+returns-then-has_none-clause-part g c = no_part (g.F.MutableRows.entries c.args.fresh.now) c.args.row c.args.next.now
+
+pub returns-in-Err-clause-part : goal.returns-in-Err-clause-part
+returns-in-Err-clause-part g c = no_part (g.F.MutableRows.entries c.args.fresh.now) c.args.row c.args.next.now
+
+pub returns-in-Err-make_room-clause-part : goal.returns-in-Err-make_room-clause-part
+returns-in-Err-make_room-clause-part g c =
+    let fresh = g.F.MutableRows.entries c.args.fresh.now in
+    subst (PublishesPartIn fresh c.args.row c.args.next.now) (sym c.in-Err-make_room.ensures.err) (no_part fresh c.args.row c.args.next.now)
+
+pub returns-in-Ok-make_room-clause-part : goal.returns-in-Ok-make_room-clause-part
+returns-in-Ok-make_room-clause-part g c =
+    let fresh = g.F.MutableRows.entries c.args.fresh.now in
+    let old = c.args.next.now in
+    let mid = c.make_room.new.next in
+    let new = c.push_in_front.new.self in
+    let own = sealed_length {A = g.row.A.Denot} fresh c.args.row c.in-Ok.sealed c.in-Ok.ensures.sealed in
+    let some = sym c.has_none.ensures ∙ c.if-has_none.false in
+    part_by_push c.push_in_front.result fresh c.args.row old mid new
+    (on_both c.push_in_front.result _ _ _
+    (λ pushes held. part_by_all fresh c.args.row old new
+    (one_published {A = g.row.A.Denot} fresh c.args.row old mid new c.in-Ok.sealed c.in-Ok.ensures.sealed c.in-Ok-make_room.ensures.place pushes some (omega (arith, held, own)))
+    (row_published {A = g.row.A.Denot} fresh c.args.row old.tables mid.tables new.tables c.in-Ok.sealed c.in-Ok.ensures.sealed c.in-Ok-make_room.ensures.room pushes some).count)
+    c.push_in_front.ensures.pushes c.push_in_front.ensures.held)
+    c.push_in_front.ensures.err
+    (part_by_place fresh c.args.row old mid c.in-Ok-make_room.ensures.place c.in-Ok-make_room.ensures.room.count)

@@ -43,3 +43,6 @@ pub returns-clause-counts : goal.returns-clause-counts
 returns-clause-counts g c =
     let n = length (output_of c.args.merged).table.rows in
     subst (λ (v : View). OnOk c.install.result (c.install.new.self.counts ≡ record v.sealed.counts { rows_held = v.sealed.counts.rows_held + n })) c.self.view_is c.install.ensures.counts
+
+pub returns-clause-entries : goal.returns-clause-entries
+returns-clause-entries g c = (ap (λ (v : View). v.fresh) c.self.view_is, ap (λ (v : View). v.waiting) c.self.view_is)

@@ -9,6 +9,7 @@ use Rattle.tf_forest.specs.Forest.{IsForest, Noted, View}
 use Rattle.tf_rows.specs.Spelled.{journal_in}
 use Rattle.tf_rows.specs.Nest.{LogsHaveValues}
 use Rattle.tf_publish.specs.Publish.{entries_waiting, tables_needed}
+use Rattle.tf_publish.specs.Tables.{listed}
 use Rattle.tf_rows.specs.Range.{LeavesInRange}
 use Rattle.tf_rows.specs.Counts.{Sealed}
 use Rattle.tf_rows.proofs.CanChange.{can_any}
@@ -98,7 +99,7 @@ returns-in-Err-clause-addition g c = record {
 
 pub returns-in-Err-clause-err : goal.returns-in-Err-clause-err
 returns-in-Err-clause-err g c =
-    let seen : Parts → Sealed → View = λ rows sealed. record { journal = journal_in rows; sealed = sealed; needed = tables_needed (fresh_in rows) sealed.tables; waiting = entries_waiting (fresh_in rows); clock = c.self.inside.clock; kept = c.self.inside.kept } in
+    let seen : Parts → Sealed → View = λ rows sealed. record { journal = journal_in rows; sealed = sealed; fresh = listed (fresh_in rows); needed = tables_needed (fresh_in rows) sealed.tables; waiting = entries_waiting (fresh_in rows); clock = c.self.inside.clock; kept = c.self.inside.kept } in
     ap (λ (rows : Parts). seen rows (g.S.RowSet.sealed c.add_entry.new.rows)) c.in-Err.ensures.err
     ∙ ap (λ (sealed : Sealed). seen (g.S.RowSet.parts c.self.inside.rows) sealed) c.in-Err.ensures.sealed
     ∙ c.self.view_is

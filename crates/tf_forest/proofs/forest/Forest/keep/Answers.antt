@@ -1,4 +1,4 @@
-use Rattle.std.proofs.Common.{◌≡◌, ◌+◌, ℕ, length, ap, subst, sym, arith, rules}
+use Rattle.std.proofs.Common.{◌≡◌, ◌+◌, ℕ, length, ap, subst, sym, ◌∙◌, arith, rules}
 use Rattle.std.proofs.lemmas.List.{take_all}
 use Rattle.tf_journal.specs.Journal.{IsUpTo}
 use Rattle.tf_manifest.specs.declared.row.Row.TheVariants as row
@@ -7,7 +7,10 @@ use Rattle.tf_rows.specs.Floors.{HaveFloors}
 use Rattle.tf_forest.specs.Forest.{View}
 use Rattle.tf_rows.specs.Spelled.{journal_in}
 use Rattle.tf_rows.specs.Next.{content_in}
-use Rattle.tf_rows.specs.Parts.{Parts}
+use Rattle.tf_rows.specs.Counts.{Sealed}
+use Rattle.tf_rows.specs.Parts.{Parts, fresh_in}
+use Rattle.tf_publish.specs.Publish.{entries_waiting, tables_needed}
+use Rattle.tf_publish.specs.Tables.{listed}
 use Rattle.tf_forest.proofs.Notes.{noted_length}
 use Rattle.tf_forest.proofs.forest.Forest.keep.Goals as goal
 
@@ -34,3 +37,11 @@ invariant_of-self g c =
 
 pub first_from-first-requires : goal.first_from-first-requires
 first_from-first-requires g c = g.met.S.AllRows.has_all row.Expiry
+
+pub returns-clause-rest : goal.returns-clause-rest
+returns-clause-rest g c =
+    let rows : Parts = (g.S.RowSet.parts c.self.inside.rows) in
+    let sealed : Sealed = g.S.RowSet.sealed c.self.inside.rows in
+    let all : c.self.inside.kept + c.len.result ≡ length (journal_in rows) = omega (arith, c.self.invariant.count) in
+    let seen : ℕ → View = λ n. record { journal = journal_in rows; sealed = sealed; fresh = listed (fresh_in rows); needed = tables_needed (fresh_in rows) sealed.tables; waiting = entries_waiting (fresh_in rows); clock = c.args.moment; kept = n } in
+    ap seen all ∙ ap (λ (v : View). record v { clock = c.args.moment; kept = length v.journal }) c.self.view_is

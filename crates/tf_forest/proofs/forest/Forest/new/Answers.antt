@@ -1,4 +1,9 @@
-use Rattle.std.proofs.Common.{ℕ, List, [], sym, subst}
+use Rattle.std.proofs.Common.{◌≡◌, ℕ, List, [], sym, ap, subst}
+use Rattle.tf_manifest.specs.declared.row.Row.{Row}
+use Rattle.tf_rows.specs.Nest.{AreEmpty}
+use Rattle.tf_rows.specs.Parts.{Part, Parts, fresh_in}
+use Rattle.tf_publish.proofs.PublishRows.{none_needed, none_waits}
+use Rattle.tf_publish.proofs.Tables.{nothing_listed}
 use Rattle.tf_forest.specs.Forest.{IsForest, Noted}
 use Rattle.tf_rows.specs.declared.found.Party.{Party}
 use Rattle.tf_forest.proofs.Notes.{empty_forest, empty_journal}
@@ -16,3 +21,17 @@ invariant_of-result g c =
 pub returns-clause-journal : goal.returns-clause-journal
 returns-clause-journal g c =
     empty_journal c.rows_spell_the_journal_they_show.ensures (g.S.RowSet.parts c.args.rows) c.requires
+
+none_fresh : (rows : Parts) → AreEmpty rows → (r : Row) → fresh_in rows r ≡ []
+none_fresh rows empty r = ap (λ (part : Part). part.fresh) (empty r)
+
+pub returns-clause-fresh : goal.returns-clause-fresh
+returns-clause-fresh g c =
+    let rows : Parts = g.S.RowSet.parts c.args.rows in
+    nothing_listed (fresh_in rows) (none_fresh rows c.requires)
+
+pub returns-clause-nothing : goal.returns-clause-nothing
+returns-clause-nothing g c =
+    let rows : Parts = g.S.RowSet.parts c.args.rows in
+    let none = none_fresh rows c.requires in
+    (none_needed (fresh_in rows) (g.S.RowSet.sealed c.args.rows).tables none, none_waits (fresh_in rows) none)

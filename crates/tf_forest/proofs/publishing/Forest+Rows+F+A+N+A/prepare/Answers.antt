@@ -1,14 +1,19 @@
 use Rattle.std.proofs.Common.{◌≡◌, ◌+◌, List, length, refl, sym, ◌∙◌, ap, subst, Result, Ok, Err, IfOk}
 use Rattle.tf_journal.specs.declared.entry.Entry.{Entry}
-use Rattle.tf_rows.specs.Counts.{Counted, Sealed}
+use Rattle.tf_rows.specs.Counts.{Counted, Sealed, counted}
 use Rattle.tf_forest.specs.Forest.{View}
 use Rattle.tf_rows.specs.Spelled.{journal_in}
 use Rattle.tf_rows.specs.Nest.{IsTree, fits_row, has_each}
 use Rattle.tf_rows.specs.Parts.{Entries, parts_of}
-use Rattle.tf_publish.specs.Publish.{tables_needed}
+use Rattle.tf_publish.specs.Publish.{entries_waiting, tables_needed}
+use Rattle.tf_publish.specs.Partly.{CountsParts}
+use Rattle.tf_publish.specs.Tables.{Publishes, by_name, listed}
 use Rattle.tf_manifest.specs.View.{ShowsJournal}
 use Rattle.tf_forest.proofs.Notes.{same_forest, same_journal}
-use Rattle.tf_forest.proofs.Refused.{logs_stay, nothing_lost, unpublished, values_stay}
+use Rattle.tf_publish.proofs.Bounds.{nothing_lost}
+use Rattle.tf_publish.proofs.Partly.{nothing_counted}
+use Rattle.tf_publish.proofs.Tables.{listed_back}
+use Rattle.tf_forest.proofs.Refused.{logs_stay, unpublished, values_stay}
 use Rattle.tf_forest.proofs.publishing.Forest+Rows+F+A+N+A.prepare.Goals as goal
 
 if_ok : {X : Type 0} {E : Type 0} (result : Result X E) (P Q : X → Type 0) → ((x : X) → P x → Q x) → IfOk result P → IfOk result Q
@@ -60,3 +65,34 @@ returns-clause-waits g c =
     (ap (λ (v : View). v.needed) c.self.view_is)
     (same_journal c.rows_spell_the_journal_they_show.ensures (parts_of before old.tables) (parts_of after new.tables)
     (values_stay before after old new (tables_needed before old.tables) c.prepare_rows.ensures.fresh c.prepare_rows.ensures.loses) c.self.invariant.shows)
+
+pub returns-clause-publishes : goal.returns-clause-publishes
+returns-clause-publishes g c =
+    let before : Entries = g.F.MutableRows.entries c.self.inside.rows.fresh in
+    let old : Sealed = c.self.inside.rows.published in
+    subst (λ (v : View). IfOk c.prepare_rows.result (λ (p : Counted). Publishes (by_name v.fresh) (counted v.sealed) p)) c.self.view_is
+    (subst (λ (f : Entries). IfOk c.prepare_rows.result (λ (p : Counted). Publishes f (counted old) p)) (sym (listed_back before)) c.prepare_rows.ensures.publishes)
+
+pub returns-clause-still : goal.returns-clause-still
+returns-clause-still g c = λ none.
+    let before : Entries = g.F.MutableRows.entries c.self.inside.rows.fresh in
+    let after : Entries = g.F.MutableRows.entries c.prepare_rows.new.rows.fresh in
+    let old : Sealed = c.self.inside.rows.published in
+    let new : Sealed = c.prepare_rows.new.rows.published in
+    let published = c.prepare_rows.ensures.still (ap (λ (v : View). v.waiting) c.self.view_is ∙ none) in
+    let seen : Entries → Sealed → View = λ f s. record { journal = journal_in (parts_of f s.tables); sealed = s; fresh = listed f; needed = tables_needed f s.tables; waiting = entries_waiting f; clock = c.self.inside.clock; kept = c.self.inside.kept } in
+    ap (λ (f : Entries). seen f new) c.prepare_rows.ensures.fresh ∙ ap (λ (s : Sealed). seen before s) published ∙ c.self.view_is
+
+pub returns-clause-equal : goal.returns-clause-equal
+returns-clause-equal g c =
+    subst (λ (v : View). IfOk c.prepare_rows.result (λ (p : Counted). v.waiting ≡ 0 → p ≡ counted v.sealed)) c.self.view_is c.prepare_rows.ensures.equal
+
+pub returns-clause-parts : goal.returns-clause-parts
+returns-clause-parts g c =
+    let before : Entries = g.F.MutableRows.entries c.self.inside.rows.fresh in
+    let new : Sealed = c.prepare_rows.new.rows.published in
+    subst (λ (v : View). CountsParts (by_name v.fresh) v.sealed new) c.self.view_is
+    (subst (λ (f : Entries). CountsParts f c.self.inside.rows.published new) (sym (listed_back before)) c.prepare_rows.ensures.parts)
+
+pub returns-then-not-has_room-clause-parts : goal.returns-then-not-has_room-clause-parts
+returns-then-not-has_room-clause-parts g c = nothing_counted (by_name c.args.self.now.fresh) c.args.self.now.sealed

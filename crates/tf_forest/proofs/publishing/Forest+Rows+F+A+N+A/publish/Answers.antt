@@ -1,8 +1,12 @@
-use Rattle.std.proofs.Common.{◌≡◌, ◌∙◌, ◌+◌, ℕ, cond, length, sym, ap, subst, arith, rules}
+use Rattle.std.proofs.Common.{◌≡◌, ◌∙◌, ◌+◌, ℕ, cond, List, Option, length, sym, ap, subst, arith, rules}
+use Rattle.tf_table.specs.declared.key.Key.{Key}
+use Rattle.tf_manifest.specs.declared.value.Value.{Value}
 use Rattle.std.specs.Prelude.{◌==◌}
 use Rattle.tf_manifest.specs.View.{ShowsJournal}
 use Rattle.tf_manifest.specs.Limit.{Pushed}
-use Rattle.tf_rows.specs.Counts.{Sealed}
+use Rattle.tf_rows.specs.Counts.{Counted, Sealed, counted, settled}
+use Rattle.tf_publish.specs.Tables.{Publishes, by_name, nothing_fresh}
+use Rattle.tf_publish.proofs.Tables.{nothing_waits_fresh, nothing_waits_needed}
 use Rattle.tf_forest.specs.Forest.{View}
 use Rattle.tf_forest.proofs.publishing.Forest+Rows+F+A+N+A.publish.Goals as goal
 
@@ -44,3 +48,35 @@ returns-in-Ok-clause-publishes g c =
     ap (λ (v : View). v.sealed.counts.publishes) c.settle.ensures
     ∙ ap (λ (s : Sealed). s.counts.publishes) loses.is
     ∙ ap (λ (n : ℕ). old.counts.publishes + cond (n == 0) 0 1) needed
+
+pub returns-in-Ok-clause-rows : goal.returns-in-Ok-clause-rows
+returns-in-Ok-clause-rows g c =
+    let fresh = c.args.self.now.fresh in
+    let old : Counted = counted c.args.self.now.sealed in
+    let p : Counted = c.in-Ok.prepared in
+    subst (λ (v : View). Publishes (by_name fresh) old (counted v.sealed)) (sym c.settle.ensures)
+    (subst (λ (h : ℕ). Publishes (by_name fresh) old (record { tables = p.tables; sealed = p.sealed; held = h })) c.in-Ok.ensures.ready.held c.in-Ok.ensures.publishes)
+
+pub returns-in-Ok-clause-empty : goal.returns-in-Ok-clause-empty
+returns-in-Ok-clause-empty g c = ap (λ (v : View). v.fresh) c.settle.ensures
+
+pub returns-in-Ok-clause-still : goal.returns-in-Ok-clause-still
+returns-in-Ok-clause-still g c = λ none.
+    let old : View = c.args.self.now in
+    let p : Counted = c.in-Ok.prepared in
+    let waits = c.facts.ensures.waits in
+    let fresh = nothing_waits_fresh old.fresh old.sealed.tables old.needed old.waiting waits none in
+    let needed = nothing_waits_needed old.fresh old.sealed.tables old.needed old.waiting waits none in
+    let is : p ≡ counted old.sealed = c.in-Ok.ensures.equal none in
+    c.settle.ensures
+    ∙ ap (λ (v : View). record v { sealed = settled p v.sealed; fresh = nothing_fresh; needed = 0; waiting = 0 }) (c.prepare.ensures.still none)
+    ∙ ap (λ (q : Counted). record old { sealed = settled q old.sealed; fresh = nothing_fresh; needed = 0; waiting = 0 }) is
+    ∙ ap (λ (w : ℕ). record old { fresh = nothing_fresh; needed = 0; waiting = w }) (sym none)
+    ∙ ap (λ (n : ℕ). record old { fresh = nothing_fresh; needed = n }) (sym needed)
+    ∙ ap (λ (f : List (List (Key × Option Value))). record old { fresh = f }) (sym fresh)
+
+pub returns-in-Err-clause-parts : goal.returns-in-Err-clause-parts
+returns-in-Err-clause-parts g c = c.prepare.ensures.parts
+
+pub returns-in-Err-clause-still : goal.returns-in-Err-clause-still
+returns-in-Err-clause-still g c = c.prepare.ensures.still
