@@ -8,6 +8,7 @@ mod filters;
 mod journals;
 mod many;
 mod merges;
+mod parts;
 mod publishing;
 mod refusals;
 mod scripts;
@@ -22,6 +23,7 @@ use crate::forest::GlobalRows;
 use counts::{assert_bounds_kept, assert_limit_holds};
 use journals::assert_journal_answered;
 use many::assert_many_answered;
+use parts::assert_parts_answered;
 use publishing::Sealing;
 use refusals::assert_refused_in_turn;
 use scripts::assert_script_answered;
@@ -48,6 +50,8 @@ enum Trial {
     Journals,
     /// Many filters at once.
     Many,
+    /// Answers about as long as the parts in which they are read.
+    Parts,
     /// Requests for memory are refused.
     Refusals,
     /// What publishes and merges count stays within its bounds.
@@ -60,7 +64,7 @@ impl Trial {
     /// How often it is tried.
     fn turns(self) -> usize {
         match self {
-            Trial::Stays | Trial::Many | Trial::Refusals => 1,
+            Trial::Stays | Trial::Many | Trial::Parts | Trial::Refusals => 1,
             Trial::Bounds | Trial::Limit(_) => 1,
             Trial::Scripts => scripts::COUNT,
             Trial::Journals => 2000,
@@ -94,6 +98,7 @@ where
         Trial::Scripts => assert_script_answered(rt, forest, turn),
         Trial::Journals => assert_journal_answered(rt, alloc, forest, turn as u64),
         Trial::Many => assert_many_answered(rt, forest),
+        Trial::Parts => assert_parts_answered(rt, forest),
         Trial::Refusals => assert_refused_in_turn(rt, forest),
         Trial::Bounds => assert_bounds_kept(rt, alloc, forest),
         Trial::Limit(limit) => assert_limit_holds(rt, forest, limit),
@@ -161,6 +166,13 @@ fn versions_of_random_journals_answer_as_the_plain_ledger_does(
 #[test]
 fn many_filters_are_answered_at_once_as_one_by_one(rt: HostRuntime) -> Result<(), Fail> {
     try_out(&rt, Trial::Many)
+}
+
+#[test]
+fn versions_answer_as_the_plain_ledger_does_where_a_part_of_a_scan_ends(
+    rt: HostRuntime,
+) -> Result<(), Fail> {
+    try_out(&rt, Trial::Parts)
 }
 
 #[test]

@@ -1,5 +1,5 @@
 -- What scans have that filters ask for, and what is read at their timestamps.
-use Rattle.std.proofs.Common.{◌≡◌, ◌∙◌, sym, refl, ap, subst, Result, Ok, Err, IfOk, ℕ, Bool, true, false, not, ◌&&◌, List, [], ◌∷◌, Option}
+use Rattle.std.proofs.Common.{◌≡◌, ◌∙◌, sym, refl, ap, subst, Result, Ok, Err, IfOk, ℕ, Bool, true, false, not, ◌&&◌, List, [], ◌∷◌, Option, ◌≤◌, arith, filter, length}
 use Rattle.std.specs.Prelude.{◌==◌, map, if◌then◌else◌}
 use Rattle.std.specs.List.{cons_option, filter_map, list_all}
 use Rattle.tf_manifest.specs.declared.kind.UnitRow.TheVariants as unit
@@ -7,7 +7,8 @@ use Rattle.tf_manifest.specs.View.{View}
 use Rattle.tf_records.specs.declared.account_filter.AccountFilter.{AccountFilter}
 use Rattle.tf_records.specs.declared.query_filter.QueryFilter.{QueryFilter}
 use Rattle.tf_journal.specs.Answer.{answer_of}
-use Rattle.tf_journal.specs.Filter.{Search}
+use Rattle.std.proofs.lemmas.List.{length-take}
+use Rattle.tf_journal.specs.Filter.{Search, is_within}
 use Rattle.tf_scan.specs.declared.direction.Direction.{Direction}
 use Rattle.tf_scan.specs.Order.{IsInOrder}
 use Rattle.tf_scan.specs.Sets.{is_among}
@@ -96,3 +97,12 @@ first-read (Ok v) items w shown d accepts left same e first order members = reco
   first = first ∙ ap (λ (x : Window). first_within x left) same;
 }
 first-read (Err e') items w shown d accepts left same e first order members = tt
+
+-- no more timestamps were read than a window has
+pub few-first : (w : Window) (accepts : ℕ → Bool) (timestamps : List ℕ) → AreFirst w accepts timestamps → length timestamps ≤ w.most
+few-first w accepts timestamps f = omega (arith, ap length f.first, length-take w.most (filter (is_within w.low w.high) f.left))
+
+-- an answer has room for just those
+pub few-rows : {T E : Type 0} (r : Result T E) (room : T → ℕ) (w : Window) (accepts : ℕ → Bool) (timestamps slice : List ℕ) → slice ≡ timestamps → AreFirst w accepts timestamps → IfOk r (λ rows. room rows ≡ length slice) → IfOk r (λ rows. room rows ≤ w.most)
+few-rows (Ok rows) room w accepts timestamps slice same f e = omega (arith, e, ap length same, few-first w accepts timestamps f)
+few-rows (Err e') room w accepts timestamps slice same f e = tt

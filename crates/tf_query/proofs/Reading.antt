@@ -1,23 +1,20 @@
 -- Reading timestamps off a scan within bounds.
-use Rattle.std.proofs.Common.{◌≡◌, ◌∙◌, sym, refl, ap, subst, ℕ, zero, suc, ◌+◌, ◌-◌, ◌<◌, ◌≤◌, arith, cond, Bool, true, false, not, ◌&&◌, ◌||◌, List, [], ◌∷◌, ◌++◌, append_assoc, Some, None, take, drop}
+use Rattle.std.proofs.Common.{◌≡◌, ◌∙◌, sym, refl, ap, subst, ℕ, zero, suc, ◌+◌, ◌-◌, ◌<◌, ◌≤◌, arith, cond, Bool, true, false, not, ◌&&◌, ◌||◌, List, [], ◌∷◌, ◌++◌, append_assoc, get_or, IfSome, min, length, take, drop}
 use Rattle.std.specs.Prelude.{nat_lt, nat_le, nat_eq, slice_get}
+use Rattle.std.proofs.Math.Seq.{take-append-add}
+use Rattle.std.proofs.lemmas.List.{drop_all, length-append, length-drop, length-take-le, take_at, take-take}
 use Rattle.std.specs.List.{filter, AllByRecursion}
 use Rattle.std.proofs.lemmas.Bool.{ltb-true, ltb-false, leb-false, le-leb, lt-leb, and_parts, and_right, and_left, false≢true, true≢false, ne_eqb}
 use Rattle.tf_journal.specs.Filter.{is_within}
 use Rattle.tf_scan.specs.declared.direction.Direction.{Direction}
 use Rattle.tf_scan.specs.declared.direction.Direction.TheVariants.{Rising, Falling}
 use Rattle.tf_scan.specs.Order.{is_before, AllBehind, IsInOrder, those_from}
-use Rattle.tf_scan.proofs.Moves.{first-split}
 use Rattle.tf_scan.proofs.Order.{in_order-filter}
 use Rattle.tf_query.specs.declared.window.Window.{Window}
 use Rattle.tf_query.specs.Windows.{first_within}
-use Rattle.tf_query.specs.Reading.{is_early, all_within, AreFrom, AreRead}
+use Rattle.tf_query.specs.Reading.{is_early, all_within, AreFrom, AreRead, IsPart}
 
 -- ---- lists
-
-none-is : (xs : List ℕ) → None ≡ slice_get xs 0 → xs ≡ []
-none-is [] e = refl
-none-is (y ∷ xs) e = absurd (let i : None ≡ Some y = e in cc)
 
 take-none : {X : Type 0} (n : ℕ) (xs : List X) → xs ≡ [] → take n xs ≡ []
 take-none zero [] e = refl
@@ -146,52 +143,146 @@ no-upper w e t = rw e refl
 pub upper : (w : Window) → (w.high ≡ 0 → ⊥) → (t : ℕ) → is_before Falling t w.high ≡ is_early Falling w t
 upper w e t = rw (ne_eqb w.high 0 e) refl
 
--- ---- steps
+-- ---- parts
+
+all-drop : (P : ℕ → Type 0) (k : ℕ) (ts : List ℕ) → AllByRecursion P ts → AllByRecursion P (drop k ts)
+all-drop P zero ts h = h
+all-drop P (suc k) [] h = tt
+all-drop P (suc k) (t ∷ ts) h = all-drop P k ts h.1
+
+-- one more lies in the window
+pub all-more : (P : ℕ → Type 0) (i : ℕ) (ts : List ℕ) (other : ℕ) → i < length ts → AllByRecursion P (take i ts) → P (get_or ts i other) → AllByRecursion P (take (i + 1) ts)
+all-more P i [] other l h p = absurd (omega arith)
+all-more P zero (t ∷ ts) other l h p = (p, subst (AllByRecursion P) (sym (take-zero ts)) tt)
+all-more P (suc i) (t ∷ ts) other l h p = rw (suc-more i) (h.0, all-more P i ts other (omega arith) h.1 p)
+  where
+    suc-more : (n : ℕ) → suc n + 1 ≡ suc (n + 1)
+    suc-more n = omega arith
+
+-- what is at a place
+pub some-at : (P : ℕ → Type 0) (i : ℕ) (ts : List ℕ) (other : ℕ) → i < length ts → P (get_or ts i other) → IfSome (slice_get ts i) P
+some-at P i [] other l p = absurd (omega arith)
+some-at P zero (t ∷ ts) other l p = p
+some-at P (suc i) (t ∷ ts) other l p = some-at P i ts other (omega arith) p
+
+from-rest : (d : Direction) (w : Window) (t : ℕ) (ts : List ℕ) → AreFrom d w (t ∷ ts) → AreFrom d w ts
+from-rest d w t ts f = record { in_order = f.in_order.1; from = f.from.1 }
+
+from-drop : (d : Direction) (w : Window) (k : ℕ) (ts : List ℕ) → AreFrom d w ts → AreFrom d w (drop k ts)
+from-drop d w zero ts f = f
+from-drop d w (suc k) [] f = f
+from-drop d w (suc k) (t ∷ ts) f = from-drop d w k ts (from-rest d w t ts f)
+
+-- of so many that are taken out those before a place lie in the window, and nothing of what is left where one stands there
+record IsSplit (w : Window) (n k : ℕ) (ts : List ℕ) : Type 0 where
+  kept : all_within w ts ≡ take n ts ++ all_within w (drop k ts)
+  none : n < k → all_within w (drop k ts) ≡ []
+
+split : (d : Direction) (w : Window) (n k : ℕ) (ts : List ℕ) → AreFrom d w ts → n ≤ k → k ≤ length ts → AllByRecursion (λ (t : ℕ). is_within w.low w.high t ≡ true) (take n ts) → IfSome (slice_get (take k ts) n) (λ t. is_within w.low w.high t ≡ false) → IsSplit w n k ts
+split d w zero zero ts f l h inside outside = record {
+  kept = sym (ap (λ (us : List ℕ). us ++ all_within w ts) (take-zero ts));
+  none = λ m. absurd (omega arith);
+}
+split d w zero (suc k) [] f l h inside outside = absurd (omega arith)
+split d w zero (suc k) (t ∷ ts) f l h inside outside =
+    let late = all-late d w t ts (late-is d w t f.from.0 outside) f.in_order.0 in
+    let none = keep-none (is_within w.low w.high) (drop k ts) (all-drop (λ (u : ℕ). is_within w.low w.high u ≡ false) k ts late) in
+    record {
+      kept = keep-none (is_within w.low w.high) (t ∷ ts) (outside, late) ∙ sym none;
+      none = λ m. none;
+    }
+split d w (suc n) zero ts f l h inside outside = absurd (omega arith)
+split d w (suc n) (suc k) [] f l h inside outside = absurd (omega arith)
+split d w (suc n) (suc k) (t ∷ ts) f l h inside outside =
+    let rest = split d w n k ts (from-rest d w t ts f) (omega arith) (omega arith) inside.1 outside in
+    record {
+      kept = rw inside.0 (ap (λ (us : List ℕ). t ∷ us) rest.kept);
+      none = λ m. rest.none (omega arith);
+    }
+
+-- nothing more is asked for where so many were given, and else nothing is left
+part-ends : (n taken most room full : ℕ) (old left : List ℕ) → n ≤ taken → room ≡ min most full → taken ≡ min room (length old) → n < full → (n < taken → left ≡ []) → (length old ≤ taken → left ≡ []) → take (most - n) left ≡ []
+part-ends n taken most room full old left l e g short cut all = by (nat_lt n taken) (nat_lt taken (length old)) refl refl
+  where
+    by : (a b : Bool) → nat_lt n taken ≡ a → nat_lt taken (length old) ≡ b → take (most - n) left ≡ []
+    by true b i j = take-none (most - n) left (cut (ltb-true n taken i))
+    by false false i j = take-none (most - n) left (all (ltb-false taken (length old) j))
+    by false true i j =
+        let same : taken ≤ n = ltb-false n taken i in
+        let more : taken < length old = ltb-true taken (length old) j in
+        let none : most - n ≡ 0 = omega arith in
+        rw none (take-zero left)
+
+-- so many were taken out of a list into the front of a part. Of these those that lie in the window are the next of the list
+pub part-read : (d : Direction) (w : Window) (most full room taken n : ℕ) (was out rest old new : List ℕ) → AreFrom d w old → length was ≡ full → room ≡ min most full → taken ≡ min (length (take room was)) (length old) → out ≡ take taken old ++ drop taken (take room was) → rest ≡ drop room was → new ≡ drop taken old → n ≤ length (take taken (out ++ rest)) → AllByRecursion (λ (t : ℕ). is_within w.low w.high t ≡ true) (take n (take taken (out ++ rest))) → IfSome (slice_get (take taken (out ++ rest)) n) (λ t. is_within w.low w.high t ≡ false) → IsPart d w most n (out ++ rest) old new
+part-read d w most full room taken n was out rest old new f e r g moved behind others few inside outside =
+    let wide : length (take room was) ≡ room = length-take-le room was (omega (arith, e)) in
+    let held : length (take taken old) ≡ taken = length-take-le taken old (omega arith) in
+    let joined : out ++ rest ≡ take taken old ++ (drop taken (take room was) ++ rest) = ap (λ (ts : List ℕ). ts ++ rest) moved ∙ append_assoc (take taken old) (drop taken (take room was)) rest in
+    let front : take taken (out ++ rest) ≡ take taken old = ap (take taken) joined ∙ take_at (take taken old) (drop taken (take room was) ++ rest) taken held in
+    let l : n ≤ taken = omega (arith, few, ap length front, held) in
+    let long : length (out ++ rest) ≡ full =
+    omega (arith, length-append out rest, ap length moved, length-append (take taken old) (drop taken (take room was)), length-drop taken (take room was), ap length behind, length-drop room was, held, wide, e) in
+    let both : take n (out ++ rest) ≡ take n old = sym (take-take n taken (out ++ rest) l) ∙ ap (take n) front ∙ take-take n taken old l in
+    let cut : IsSplit w n taken old = split d w n taken old f l (omega arith)
+    (subst (AllByRecursion (λ (t : ℕ). is_within w.low w.high t ≡ true)) (ap (take n) front ∙ take-take n taken old l) inside)
+    (subst (λ (ts : List ℕ). IfSome (slice_get ts n) (λ t. is_within w.low w.high t ≡ false)) front outside) in
+    let left : all_within w new ≡ all_within w (drop taken old) = ap (all_within w) others in
+    let kept : length (take n old) ≡ n = length-take-le n old (omega arith) in
+    record {
+      few = omega arith;
+      inside = omega (arith, long);
+      left_from = subst (AreFrom d w) (sym others) (from-drop d w taken old f);
+      joined =
+          ap (λ (ts : List ℕ). ts ++ take (most - n) (all_within w new)) both
+          ∙ ap (λ (ts : List ℕ). take n old ++ take (most - n) ts) left
+          ∙ sym (take-append-add (take n old) (all_within w (drop taken old)) (most - n))
+          ∙ ap (λ (i : ℕ). take i (take n old ++ all_within w (drop taken old))) (omega (arith, kept))
+          ∙ ap (take most) (sym cut.kept);
+      ends = λ short. part-ends n taken most room full old (all_within w new) l r (g ∙ ap (λ (i : ℕ). min i (length old)) wide) (omega (arith, long)) (λ m. left ∙ cut.none m) (λ whole. left ∙ ap (all_within w) (drop_all taken old whole));
+    }
+
+-- ---- what is read part by part
 
 none-off : (n : ℕ) → n - 0 ≡ n
 none-off n = omega arith
 
-pub read-start : (d : Direction) (w : Window) (read left whole : List ℕ) → read ≡ [] → AreFrom d w left → all_within w left ≡ all_within w whole → AreRead d w 0 read left whole
-read-start d w read left whole none h e = record { left_from = h; joined = ap (λ (ts : List ℕ). ts ++ take (w.most - 0) (all_within w left)) none ∙ ap (λ (n : ℕ). take n (all_within w left)) (none-off w.most) ∙ ap (take w.most) e }
+-- the same in a direction that was asked for
+pub from-in : (d r : Direction) (w : Window) (ts : List ℕ) → r ≡ d → AreFrom d w ts → AreFrom r w ts
+from-in d r w ts e f = subst (λ (x : Direction). AreFrom x w ts) (sym e) f
 
-module _ (d : Direction) (w : Window) (count : ℕ) (read left whole : List ℕ) (r : AreRead d w count read left whole) where
-  -- one more is read
-  pub read-next : (t : ℕ) (more next : List ℕ) → count < w.most → Some t ≡ slice_get left 0 → next ≡ drop 1 left → is_within w.low w.high t ≡ true → more ≡ read ++ t ∷ [] → AreRead d w (count + 1) more next whole
-  read-next t more next below first others within e =
-      let same = first-split left next t first others in
-      let g = subst (AreFrom d w) same r.left_from in
-      let k = subst (λ (us : List ℕ). read ++ take (w.most - count) (all_within w us) ≡ first_within w whole) same r.joined in
-      let left_over : w.most - count ≡ suc (w.most - (count + 1)) = omega arith in
-      let kept : all_within w (t ∷ next) ≡ t ∷ all_within w next = rw within refl in
-      record {
-        left_from = record { in_order = g.in_order.1; from = g.from.1 };
-        joined =
-            ap (λ (ts : List ℕ). ts ++ take (w.most - (count + 1)) (all_within w next)) e
-            ∙ append_assoc read (t ∷ []) (take (w.most - (count + 1)) (all_within w next))
-            ∙ ap (λ (ts : List ℕ). read ++ ts) (sym (ap (λ n. take n (t ∷ all_within w next)) left_over))
-            ∙ ap (λ (ts : List ℕ). read ++ take (w.most - count) ts) (sym kept)
-            ∙ k;
-      }
+pub part-in : (d r : Direction) (w : Window) (most count : ℕ) (part old new : List ℕ) → r ≡ d → IsPart r w most count part old new → IsPart d w most count part old new
+part-in d r w most count part old new e p = subst (λ (x : Direction). IsPart x w most count part old new) e p
 
-  -- nothing more is asked for, or nothing that is left lies in the window
-  read-whole : take (w.most - count) (all_within w left) ≡ [] → read ≡ first_within w whole
-  read-whole e = sym (append-none read) ∙ ap (λ (ts : List ℕ). read ++ ts) (sym e) ∙ r.joined
+-- a part is put behind what was read
+pub read-more : (d : Direction) (w : Window) (count full : ℕ) (part read more old new whole : List ℕ) → length read ≤ w.most → read ++ take (w.most - length read) (all_within w old) ≡ first_within w whole → IsPart d w (w.most - length read) count part old new → full ≡ length part → more ≡ read ++ take count part → AreRead d w count full more new whole
+read-more d w count full part read more old new whole few joined p e m =
+    let long : length more ≡ length read + count = ap length m ∙ length-append read (take count part) ∙ ap (λ (i : ℕ). length read + i) (length-take-le count part p.inside) in
+    let left : w.most - length more ≡ (w.most - length read) - count = omega (arith, long) in
+    record {
+      few = omega (arith, long, p.few);
+      inside = omega (arith, p.inside);
+      left_from = p.left_from;
+      joined =
+          ap (λ (ts : List ℕ). ts ++ take (w.most - length more) (all_within w new)) m
+          ∙ append_assoc read (take count part) (take (w.most - length more) (all_within w new))
+          ∙ ap (λ (i : ℕ). read ++ (take count part ++ take i (all_within w new))) left
+          ∙ ap (λ (ts : List ℕ). read ++ ts) p.joined
+          ∙ joined;
+      ends = λ short. ap (λ (i : ℕ). take i (all_within w new)) left ∙ p.ends (omega arith);
+    }
 
-  -- all that are asked for were read
-  pub read-all : w.most ≤ count → read ≡ first_within w whole
-  read-all h =
-      let none : w.most - count ≡ 0 = omega arith in
-      read-whole (rw none (take-zero (all_within w left)))
+-- nothing was read before the first part
+pub read-first : (d : Direction) (w : Window) (count full : ℕ) (part read old new whole : List ℕ) → all_within w old ≡ all_within w whole → IsPart d w w.most count part old new → full ≡ length part → read ≡ take count part → AreRead d w count full read new whole
+read-first d w count full part read old new whole same p e m =
+    let start : take (w.most - 0) (all_within w old) ≡ first_within w whole = ap (λ (i : ℕ). take i (all_within w old)) (none-off w.most) ∙ ap (take w.most) same in
+    read-more d w count full part [] read old new whole (omega arith) start (subst (λ (i : ℕ). IsPart d w i count part old new) (sym (none-off w.most)) p) e m
 
-  -- nothing is left
-  pub read-end : None ≡ slice_get left 0 → read ≡ first_within w whole
-  read-end none = read-whole (take-none (w.most - count) (all_within w left) (ap (all_within w) (none-is left none)))
+pub read-next : (d : Direction) (w : Window) (last count full : ℕ) (part read more old new whole : List ℕ) → AreRead d w last full read old whole → IsPart d w (w.most - length read) count part old new → full ≡ length part → more ≡ read ++ take count part → AreRead d w count full more new whole
+read-next d w last count full part read more old new whole r p e m = read-more d w count full part read more old new whole r.few r.joined p e m
 
-  -- what is left is past the last bound
-  pub read-past : (t : ℕ) → Some t ≡ slice_get left 0 → is_within w.low w.high t ≡ false → read ≡ first_within w whole
-  read-past t first outside =
-      let same = first-split left (drop 1 left) t first refl in
-      let f = subst (AreFrom d w) same r.left_from in
-      let rest = all-late d w t (drop 1 left) (late-is d w t f.from.0 outside) f.in_order.0 in
-      let none : all_within w (t ∷ drop 1 left) ≡ [] = keep-none (is_within w.low w.high) (t ∷ drop 1 left) (outside, rest) in
-      read-whole (take-none (w.most - count) (all_within w left) (ap (all_within w) same ∙ none))
+-- the last part wasn't filled
+pub read-whole : (d : Direction) (w : Window) (count full : ℕ) (read left whole : List ℕ) → AreRead d w count full read left whole → (count ≡ full → ⊥) → read ≡ first_within w whole
+read-whole d w count full read left whole r short =
+    let i = r.inside in
+    sym (append-none read) ∙ ap (λ (ts : List ℕ). read ++ ts) (sym (r.ends (omega arith))) ∙ r.joined

@@ -1,5 +1,5 @@
 -- Timestamps that are read off a scan within bounds.
-use Rattle.std.specs.Prelude.{◌≡◌, ℕ, ◌-◌, ◌==◌, ◌&&◌, not, nat_lt, Bool, false, List, ◌++◌, take}
+use Rattle.std.specs.Prelude.{◌≡◌, ℕ, ◌-◌, ◌<◌, ◌≤◌, ◌==◌, ◌&&◌, not, nat_lt, Bool, false, List, [], ◌++◌, length, take}
 use Rattle.std.specs.List.{filter as keep, AllByRecursion}
 use Rattle.tf_journal.specs.Filter.{is_within}
 use Rattle.tf_scan.specs.declared.direction.Direction.{Direction}
@@ -22,7 +22,19 @@ pub record AreFrom (d : Direction) (window : Window) (ts : List ℕ) : Type 0 wh
   pub in_order : IsInOrder d ts
   pub from : AllByRecursion (λ (t : ℕ). is_early d window t ≡ false) ts
 
--- so many were read, in order, and others are left
-pub record AreRead (d : Direction) (window : Window) (count : ℕ) (read left whole : List ℕ) : Type 0 where
+-- a part was read, at most so many: its first ones, so many, are the next that lie in a window, and where they don't fill it,
+-- they are the last that are asked for
+pub record IsPart (d : Direction) (window : Window) (most count : ℕ) (part left_old left : List ℕ) : Type 0 where
+  pub few : count ≤ most
+  pub inside : count ≤ length part
   pub left_from : AreFrom d window left
-  pub joined : read ++ take (window.most - count) (all_within window left) ≡ first_within window whole
+  pub joined : take count part ++ take (most - count) (all_within window left) ≡ take most (all_within window left_old)
+  pub ends : count < length part → take (most - count) (all_within window left) ≡ []
+
+-- these were read of a whole, the latest of them as the beginning of a part, which they don't fill where they are the last
+pub record AreRead (d : Direction) (window : Window) (count full : ℕ) (read left whole : List ℕ) : Type 0 where
+  pub few : length read ≤ window.most
+  pub inside : count ≤ full
+  pub left_from : AreFrom d window left
+  pub joined : read ++ take (window.most - length read) (all_within window left) ≡ first_within window whole
+  pub ends : count < full → take (window.most - length read) (all_within window left) ≡ []

@@ -1,7 +1,7 @@
 //! The answers of filters, read from a manifest that shows a journal.
-ghost use Rattle.std.specs.Prelude.{◌≡◌, List, true, false, IfErr, IfOk, IsOk};
+ghost use Rattle.std.specs.Prelude.{◌≡◌, ◌≤◌, List, true, false, min, vec_capacity, IfErr, IfOk, IsOk};
 ghost use Rattle.tf_journal.specs.declared.entry.Entry.{Entry};
-ghost use Rattle.tf_journal.specs.Answer.{account_transfers_of, found_accounts_of, found_transfers_of};
+ghost use Rattle.tf_journal.specs.Answer.{account_transfers_of, answer_max, found_accounts_of, found_transfers_of};
 ghost use Rattle.tf_journal.specs.Filter.{is_valid_account_filter, is_valid_query_filter};
 ghost use Rattle.tf_journal.specs.Lawful.{IsSound};
 ghost use Rattle.tf_manifest.specs.View.{ShowsJournal};
@@ -106,6 +106,7 @@ pub fn account_transfers<A: Allocator, N: Naming, B: Allocator + Copy>(
     filter: &AccountFilter,
 ) -> Result<Vec<Transfer, B>, Refusal>
     ensures ok { (journal : List Entry) → IsSound journal → ShowsJournal manifest.now journal → IfOk result (λ rows. rows.items ≡ account_transfers_of journal filter.now) }
+    ensures room { IfOk result (λ rows. vec_capacity rows ≤ min filter.now.limit answer_max) }
     ensures refusal { IfErr result (λ refusal. refusal ≡ Refusal.NoMemory) }
     ensures invalid { is_valid_account_filter filter.now ≡ false → IsOk result }
 {
@@ -126,6 +127,7 @@ pub fn found_transfers<A: Allocator, N: Naming, B: Allocator + Copy>(
     filter: &QueryFilter,
 ) -> Result<Vec<Transfer, B>, Refusal>
     ensures ok { (journal : List Entry) → IsSound journal → ShowsJournal manifest.now journal → IfOk result (λ rows. rows.items ≡ found_transfers_of journal filter.now) }
+    ensures room { IfOk result (λ rows. vec_capacity rows ≤ min filter.now.limit answer_max) }
     ensures refusal { IfErr result (λ refusal. refusal ≡ Refusal.NoMemory) }
     ensures invalid { is_valid_query_filter filter.now ≡ false → IsOk result }
 {
@@ -146,6 +148,7 @@ pub fn found_accounts<A: Allocator, N: Naming, B: Allocator + Copy>(
     filter: &QueryFilter,
 ) -> Result<Vec<Account, B>, Refusal>
     ensures ok { (journal : List Entry) → IsSound journal → ShowsJournal manifest.now journal → IfOk result (λ rows. rows.items ≡ found_accounts_of journal filter.now) }
+    ensures room { IfOk result (λ rows. vec_capacity rows ≤ min filter.now.limit answer_max) }
     ensures refusal { IfErr result (λ refusal. refusal ≡ Refusal.NoMemory) }
     ensures invalid { is_valid_query_filter filter.now ≡ false → IsOk result }
 {

@@ -1,7 +1,7 @@
 //! The balances of an account in the past, read from a manifest that shows a journal.
-ghost use Rattle.std.specs.Prelude.{◌≡◌, List, false, IfErr, IfOk, IsOk};
+ghost use Rattle.std.specs.Prelude.{◌≡◌, ◌≤◌, List, false, min, vec_capacity, IfErr, IfOk, IsOk};
 ghost use Rattle.tf_journal.specs.declared.entry.Entry.{Entry};
-ghost use Rattle.tf_journal.specs.Answer.{history_of};
+ghost use Rattle.tf_journal.specs.Answer.{answer_max, history_of};
 ghost use Rattle.tf_journal.specs.Filter.{is_valid_account_filter};
 ghost use Rattle.tf_journal.specs.Lawful.{IsSound};
 ghost use Rattle.tf_manifest.specs.Rows.{has_history};
@@ -34,6 +34,7 @@ pub fn account_history<A: Allocator, N: Naming, B: Allocator + Copy>(
     filter: &AccountFilter,
 ) -> Result<Vec<AccountBalance, B>, Refusal>
     ensures ok { (journal : List Entry) → IsSound journal → ShowsJournal manifest.now journal → IfOk result (λ rows. rows.items ≡ history_of journal filter.now) }
+    ensures room { IfOk result (λ rows. vec_capacity rows ≤ min filter.now.limit answer_max) }
     ensures refusal { IfErr result (λ refusal. refusal ≡ Refusal.NoMemory) }
     ensures invalid { is_valid_account_filter filter.now ≡ false → IsOk result }
 {

@@ -1,13 +1,13 @@
 //! Look-ups of ids, read from a manifest that shows a journal.
-ghost use Rattle.std.specs.Prelude.{◌≡◌, List, Err, Ok, filter_map, length, IfErr, IfOk, MatchOption};
-ghost use Rattle.std.specs.Option.{option_and_then};
+ghost use Rattle.std.specs.Prelude.{◌≡◌, List, Err, Ok, filter_map, length, vec_capacity, IfErr, IfOk, MatchOption};
+ghost use Rattle.std.specs.Option.{option_and_then, option_copied};
 ghost use Rattle.tf_journal.specs.declared.entry.Entry.{Entry};
 ghost use Rattle.tf_journal.specs.Answer.{lookup_refusal, looked_up_accounts, looked_up_transfers};
 ghost use Rattle.tf_journal.specs.Lawful.{IsSound};
 ghost use Rattle.tf_manifest.specs.View.{ShowsJournal};
 ghost use Rattle.tf_query.specs.Reads.{account_in, account_stamp_in, shown_in, transfer_in, transfer_stamp_in};
 
-use crate::reads::{account_at, key_of, push_found, stored_account_at, transfer_at};
+use crate::reads::{account_at, key_of, push_found, push_record, stored_account_at, transfer_at};
 use crate::rows_find_ids;
 use std::alloc::Allocator;
 use tf_manifest::{IdStamp, Manifest, Naming};
@@ -31,12 +31,12 @@ fn transfer_stamp<A: Allocator, N: Naming>(manifest: &Manifest<'_, A, N>, id: u1
     }
 }
 
-/// The account with this id, as it was stored: two look-ups in rows.
-pub fn stored_account<A: Allocator, N: Naming>(
-    manifest: &Manifest<'_, A, N>,
+/// The account with this id, as it was stored, where its table has it: two look-ups in rows.
+pub fn stored_account<'r, A: Allocator, N: Naming>(
+    manifest: &Manifest<'r, A, N>,
     id: u128,
-) -> Option<Account>
-    ensures { result ≡ option_and_then (account_in manifest.now) (account_stamp_in manifest.now id) }
+) -> Option<&'r Account>
+    ensures { option_copied result ≡ option_and_then (account_in manifest.now) (account_stamp_in manifest.now id) }
 {
     let timestamp = account_stamp(manifest, id)?;
     stored_account_at(manifest, timestamp)
@@ -50,9 +50,12 @@ fn account<A: Allocator, N: Naming>(manifest: &Manifest<'_, A, N>, id: u128) -> 
     account_at(manifest, timestamp)
 }
 
-/// The transfer with this id: two look-ups in rows.
-fn transfer<A: Allocator, N: Naming>(manifest: &Manifest<'_, A, N>, id: u128) -> Option<Transfer>
-    ensures { result ≡ option_and_then (transfer_in manifest.now) (transfer_stamp_in manifest.now id) }
+/// The transfer with this id, where its table has it: two look-ups in rows.
+fn transfer<'r, A: Allocator, N: Naming>(
+    manifest: &Manifest<'r, A, N>,
+    id: u128,
+) -> Option<&'r Transfer>
+    ensures { option_copied result ≡ option_and_then (transfer_in manifest.now) (transfer_stamp_in manifest.now id) }
 {
     let timestamp = transfer_stamp(manifest, id)?;
     transfer_at(manifest, timestamp)
@@ -75,11 +78,12 @@ fn accounts<A: Allocator, N: Naming, B: Allocator>(
     ids: &[u128],
 ) -> Result<Vec<Account, B>, Refusal>
     ensures ok { IfOk result (λ rows. rows.items ≡ filter_map (λ id. option_and_then (shown_in manifest.now) (account_stamp_in manifest.now id)) ids.now) }
+    ensures room { IfOk result (λ rows. vec_capacity rows ≡ length ids.now) }
     ensures refusal { IfErr result (λ refusal. refusal ≡ Refusal.NoMemory) }
 {
     let mut rows = Vec::with_capacity(alloc, ids.len())?;
     for id in ids {
-        push_found(&mut rows, account(manifest, *id))?;
+        push_found(&mut rows, account(manifest, *id));
     }
     Ok(rows)
 }
@@ -91,11 +95,12 @@ fn transfers<A: Allocator, N: Naming, B: Allocator>(
     ids: &[u128],
 ) -> Result<Vec<Transfer, B>, Refusal>
     ensures ok { IfOk result (λ rows. rows.items ≡ filter_map (λ id. option_and_then (transfer_in manifest.now) (transfer_stamp_in manifest.now id)) ids.now) }
+    ensures room { IfOk result (λ rows. vec_capacity rows ≡ length ids.now) }
     ensures refusal { IfErr result (λ refusal. refusal ≡ Refusal.NoMemory) }
 {
     let mut rows = Vec::with_capacity(alloc, ids.len())?;
     for id in ids {
-        push_found(&mut rows, transfer(manifest, *id))?;
+        push_record(&mut rows, transfer(manifest, *id));
     }
     Ok(rows)
 }
@@ -107,6 +112,7 @@ pub fn accounts_with_ids<A: Allocator, N: Naming, B: Allocator>(
     ids: &[u128],
 ) -> Result<Vec<Account, B>, Refusal>
     ensures ok { (journal : List Entry) → IsSound journal → ShowsJournal manifest.now journal → IfOk result (λ rows. rows.items ≡ looked_up_accounts journal ids.now) }
+    ensures room { IfOk result (λ rows. vec_capacity rows ≡ length ids.now) }
     ensures refused { MatchOption (lookup_refusal (length ids.now))
         (IfErr result (λ refusal. refusal ≡ Refusal.NoMemory)) (λ refusal. result ≡ Err refusal) }
 {
@@ -126,6 +132,7 @@ pub fn transfers_with_ids<A: Allocator, N: Naming, B: Allocator>(
     ids: &[u128],
 ) -> Result<Vec<Transfer, B>, Refusal>
     ensures ok { (journal : List Entry) → IsSound journal → ShowsJournal manifest.now journal → IfOk result (λ rows. rows.items ≡ looked_up_transfers journal ids.now) }
+    ensures room { IfOk result (λ rows. vec_capacity rows ≡ length ids.now) }
     ensures refused { MatchOption (lookup_refusal (length ids.now))
         (IfErr result (λ refusal. refusal ≡ Refusal.NoMemory)) (λ refusal. result ≡ Err refusal) }
 {

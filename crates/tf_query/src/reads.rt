@@ -1,6 +1,6 @@
 //! What tables have at timestamps.
-ghost use Rattle.std.specs.Prelude.{◌≡◌, ◌++◌, filter_map, IfErr, IfOk, OnOk};
-ghost use Rattle.std.specs.Option.{option_to_list};
+ghost use Rattle.std.specs.Prelude.{◌≡◌, ◌+◌, ◌<◌, ◌≤◌, ◌++◌, filter_map, length, vec_capacity, vec_len, IfErr, IfOk};
+ghost use Rattle.std.specs.Option.{option_copied, option_to_list};
 ghost use Rattle.tf_manifest.specs.Rows.{key_of};
 ghost use Rattle.tf_query.specs.Reads.{account_in, balance_in, shown_by, shown_in, state_in, sums_in, transfer_in};
 
@@ -16,49 +16,48 @@ pub fn key_of(value: u128, timestamp: u64) -> Key
     Key { value, timestamp }
 }
 
-/// The transfer with this timestamp.
-pub fn transfer_at<A: Allocator, N: Naming>(
-    manifest: &Manifest<'_, A, N>,
+/// The transfer with this timestamp, where its table has it.
+pub fn transfer_at<'r, A: Allocator, N: Naming>(
+    manifest: &Manifest<'r, A, N>,
     timestamp: u64,
-) -> Option<Transfer>
-    ensures { result ≡ transfer_in manifest.now timestamp }
+) -> Option<&'r Transfer>
+    ensures { option_copied result ≡ transfer_in manifest.now timestamp }
 {
     let stored = manifest.transfers.row(0).find(&key_of(0, timestamp))?;
-    Some(stored.record)
+    Some(&stored.record)
 }
 
-/// The account with this timestamp, as it was stored.
-pub fn stored_account_at<A: Allocator, N: Naming>(
-    manifest: &Manifest<'_, A, N>,
+/// The account with this timestamp, as it was stored, where its table has it.
+pub fn stored_account_at<'r, A: Allocator, N: Naming>(
+    manifest: &Manifest<'r, A, N>,
     timestamp: u64,
-) -> Option<Account>
-    ensures { result ≡ account_in manifest.now timestamp }
+) -> Option<&'r Account>
+    ensures { option_copied result ≡ account_in manifest.now timestamp }
 {
     let stored = manifest.accounts.row(0).find(&key_of(0, timestamp))?;
-    Some(stored.record)
+    Some(&stored.record)
 }
 
-/// The present state of the account with this timestamp.
-pub fn state_at<A: Allocator, N: Naming>(
-    manifest: &Manifest<'_, A, N>,
+/// The present state of the account with this timestamp, where its table has it.
+pub fn state_at<'r, A: Allocator, N: Naming>(
+    manifest: &Manifest<'r, A, N>,
     timestamp: u64,
-) -> Option<State>
-    ensures { result ≡ state_in manifest.now timestamp }
+) -> Option<&'r State>
+    ensures { option_copied result ≡ state_in manifest.now timestamp }
 {
-    let state = manifest.states.row(0).find(&key_of(0, timestamp))?;
-    Some(*state)
+    manifest.states.row(0).find(&key_of(0, timestamp))
 }
 
-/// The sums of an account right after the transfer with this timestamp.
-fn sums_at<A: Allocator, N: Naming>(
-    manifest: &Manifest<'_, A, N>,
+/// The sums of an account right after the transfer with this timestamp, where their table has them.
+fn sums_at<'r, A: Allocator, N: Naming>(
+    manifest: &Manifest<'r, A, N>,
     account_id: u128,
     timestamp: u64,
-) -> Option<Sums>
-    ensures { result ≡ sums_in manifest.now account_id timestamp }
+) -> Option<&'r Sums>
+    ensures { option_copied result ≡ sums_in manifest.now account_id timestamp }
 {
     let stored = manifest.sums.row(0).find(&key_of(account_id, timestamp))?;
-    Some(stored.record)
+    Some(&stored.record)
 }
 
 /// A stored account as answers show it: with its balances, and marked as closed where it is.
@@ -89,7 +88,7 @@ pub fn account_at<A: Allocator, N: Naming>(
 {
     let stored = stored_account_at(manifest, timestamp)?;
     let state = state_at(manifest, timestamp)?;
-    Some(shown(&stored, &state))
+    Some(shown(stored, state))
 }
 
 /// The balances of an account right after the transfer with this timestamp.
@@ -111,20 +110,27 @@ pub fn balance_at<A: Allocator, N: Naming>(
     })
 }
 
-/// Puts what was found at the end of the rows. `NoMemory` is the only refusal.
-pub fn push_found<T: Drop, B: Allocator>(
-    rows: &mut Vec<T, B>,
-    found: Option<T>,
-) -> Result<(), Refusal>
-    ensures ok { OnOk result (rows.new.items ≡ rows.old.items ++ option_to_list found) }
-    ensures refusal { IfErr result (λ refusal. refusal ≡ Refusal.NoMemory) }
+/// Puts what was found at the end of the rows, which have room for it.
+pub fn push_found<T: Drop, B: Allocator>(rows: &mut Vec<T, B>, found: Option<T>)
+    requires { vec_len rows.old < vec_capacity rows.old }
+    ensures items { rows.new.items ≡ rows.old.items ++ option_to_list found }
+    ensures len { vec_len rows.new ≤ vec_len rows.old + 1 }
+    ensures room { vec_capacity rows.new ≡ vec_capacity rows.old }
 {
-    match found {
-        Some(row) => match rows.push(row) {
-            Ok(()) => Ok(()),
-            Err(_) => Err(Refusal::NoMemory),
-        },
-        None => Ok(()),
+    if let Some(row) = found {
+        rows.push_reserved(row);
+    }
+}
+
+/// Puts a copy of the record that was found at the end of the rows, which have room for it.
+pub fn push_record<T: Copy + Drop, B: Allocator>(rows: &mut Vec<T, B>, found: Option<&T>)
+    requires { vec_len rows.old < vec_capacity rows.old }
+    ensures items { rows.new.items ≡ rows.old.items ++ option_to_list (option_copied found.entry) }
+    ensures len { vec_len rows.new ≤ vec_len rows.old + 1 }
+    ensures room { vec_capacity rows.new ≡ vec_capacity rows.old }
+{
+    if let Some(record) = found {
+        rows.push_reserved(*record);
     }
 }
 
@@ -135,11 +141,12 @@ pub fn transfers_at<A: Allocator, N: Naming, B: Allocator>(
     timestamps: &[u64],
 ) -> Result<Vec<Transfer, B>, Refusal>
     ensures ok { IfOk result (λ rows. rows.items ≡ filter_map (transfer_in manifest.now) timestamps.now) }
+    ensures room { IfOk result (λ rows. vec_capacity rows ≡ length timestamps.now) }
     ensures refusal { IfErr result (λ refusal. refusal ≡ Refusal.NoMemory) }
 {
     let mut rows = Vec::with_capacity(alloc, timestamps.len())?;
     for timestamp in timestamps {
-        push_found(&mut rows, transfer_at(manifest, *timestamp))?;
+        push_record(&mut rows, transfer_at(manifest, *timestamp));
     }
     Ok(rows)
 }
@@ -151,11 +158,12 @@ pub fn accounts_at<A: Allocator, N: Naming, B: Allocator>(
     timestamps: &[u64],
 ) -> Result<Vec<Account, B>, Refusal>
     ensures ok { IfOk result (λ rows. rows.items ≡ filter_map (shown_in manifest.now) timestamps.now) }
+    ensures room { IfOk result (λ rows. vec_capacity rows ≡ length timestamps.now) }
     ensures refusal { IfErr result (λ refusal. refusal ≡ Refusal.NoMemory) }
 {
     let mut rows = Vec::with_capacity(alloc, timestamps.len())?;
     for timestamp in timestamps {
-        push_found(&mut rows, account_at(manifest, *timestamp))?;
+        push_found(&mut rows, account_at(manifest, *timestamp));
     }
     Ok(rows)
 }
@@ -168,11 +176,12 @@ pub fn balances_at<A: Allocator, N: Naming, B: Allocator>(
     timestamps: &[u64],
 ) -> Result<Vec<AccountBalance, B>, Refusal>
     ensures ok { IfOk result (λ rows. rows.items ≡ filter_map (balance_in manifest.now account_id) timestamps.now) }
+    ensures room { IfOk result (λ rows. vec_capacity rows ≡ length timestamps.now) }
     ensures refusal { IfErr result (λ refusal. refusal ≡ Refusal.NoMemory) }
 {
     let mut rows = Vec::with_capacity(alloc, timestamps.len())?;
     for timestamp in timestamps {
-        push_found(&mut rows, balance_at(manifest, account_id, *timestamp))?;
+        push_found(&mut rows, balance_at(manifest, account_id, *timestamp));
     }
     Ok(rows)
 }

@@ -1,6 +1,8 @@
 //! The timestamps that a filter asks for, read off a scan.
-ghost use Rattle.std.specs.Prelude.{◌≡◌, IfErr, IfOk};
-ghost use Rattle.tf_query.specs.Reading.{AreFrom, all_within};
+ghost use Rattle.std.specs.Prelude.{◌≡◌, ◌≤◌, true, false, length, take, slice_get, IfErr, IfOk, IfSome};
+ghost use Rattle.std.specs.List.{AllByRecursion};
+ghost use Rattle.tf_journal.specs.Filter.{is_within};
+ghost use Rattle.tf_query.specs.Reading.{AreFrom, IsPart, all_within};
 ghost use Rattle.tf_query.specs.Windows.{first_within};
 ghost use Rattle.tf_scan.specs.Order.{IsInOrder};
 
@@ -8,6 +10,9 @@ use crate::window::Window;
 use std::alloc::Allocator;
 use tf_records::Refusal;
 use tf_scan::{Direction, Leaf, Scan};
+
+/// How many timestamps are read off a scan at once.
+const PART: usize = 256;
 
 /// Takes out what comes before a window's first bound.
 fn seek_first<P: Leaf, B: Allocator>(scan: &mut Scan<P, B>, window: &Window)
@@ -26,10 +31,42 @@ fn seek_first<P: Leaf, B: Allocator>(scan: &mut Scan<P, B>, window: &Window)
     }
 }
 
-/// The first timestamps of a scan that lie in a window. Room for as many as the window has is made once.
+/// How many timestamps stand before the first that doesn't lie in a window.
+fn count_within(window: &Window, timestamps: &[u64]) -> usize
+    ensures few { result ≤ length timestamps.now }
+    ensures inside { AllByRecursion (λ t. is_within window.now.low window.now.high t ≡ true) (take result timestamps.now) }
+    ensures outside { IfSome (slice_get timestamps.now result) (λ t. is_within window.now.low window.now.high t ≡ false) }
+{
+    for place in 0..timestamps.len() {
+        if !window.contains(timestamps[place]) {
+            return place;
+        }
+    }
+    timestamps.len()
+}
+
+/// Moves the next timestamps of a scan to the front of `part`, at most so many, and tells how many of them lie in a window.
 ///
-/// It seeks the first bound, and reads no further than the first timestamp that is past the last one. `NoMemory` is the
-/// only refusal.
+/// Fewer than it has room for are the last that are asked for.
+fn read_part<P: Leaf, B: Allocator>(
+    scan: &mut Scan<P, B>,
+    window: &Window,
+    most: usize,
+    part: &mut [u64; PART],
+) -> usize
+    requires { AreFrom scan.old.direction window.now scan.old.left }
+    ensures direction { scan.new.direction ≡ scan.old.direction }
+    ensures part { IsPart scan.old.direction window.now most result part.new scan.old.left scan.new.left }
+{
+    let taken = scan.take_into(&mut part[..most.min(PART)]);
+    count_within(window, &part[..taken])
+}
+
+/// The first timestamps of a scan that lie in a window. Room for them is made once: for just as many where they are few,
+/// else for as many as the window has.
+///
+/// It seeks the first bound and reads on in parts, none of them longer than what is still asked for, until one has the last
+/// timestamp in the window. `NoMemory` is the only refusal.
 pub fn timestamps_within<P: Leaf, B: Allocator>(
     alloc: B,
     scan: &mut Scan<P, B>,
@@ -39,18 +76,15 @@ pub fn timestamps_within<P: Leaf, B: Allocator>(
     ensures in_order { IfOk result (λ timestamps. IsInOrder scan.old.direction scan.old.left) }
     ensures refusal { IfErr result (λ refusal. refusal ≡ Refusal.NoMemory) }
 {
-    let mut timestamps = Vec::with_capacity(alloc, window.most)?;
     seek_first(scan, window);
-    for taken in 0..window.most {
-        match scan.next() {
-            Some(timestamp) => {
-                if !window.contains(timestamp) {
-                    return Ok(timestamps);
-                }
-                timestamps.push(timestamp)?;
-            }
-            None => return Ok(timestamps),
-        }
+    let mut part = [0; PART];
+    let mut count = read_part(scan, window, window.most, &mut part);
+    let room = if count < PART { count } else { window.most };
+    let mut timestamps = Vec::with_capacity(alloc, room)?;
+    timestamps.extend_from_slice(&part[..count])?;
+    while count == PART {
+        count = read_part(scan, window, window.most - timestamps.len(), &mut part);
+        timestamps.extend_from_slice(&part[..count])?;
     }
     Ok(timestamps)
 }

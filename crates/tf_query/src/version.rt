@@ -1,6 +1,6 @@
 //! Versions.
-ghost use Rattle.std.specs.Prelude.{◌≡◌, false, length, Err, IfErr, IfOk, IsOk, MatchOption};
-ghost use Rattle.tf_journal.specs.Answer.{account_transfers_of, found_accounts_of, found_transfers_of, history_of, lookup_refusal, looked_up_accounts, looked_up_transfers};
+ghost use Rattle.std.specs.Prelude.{◌≡◌, ◌≤◌, false, length, min, vec_capacity, Err, IfErr, IfOk, IsOk, MatchOption};
+ghost use Rattle.tf_journal.specs.Answer.{account_transfers_of, answer_max, found_accounts_of, found_transfers_of, history_of, lookup_refusal, looked_up_accounts, looked_up_transfers};
 ghost use Rattle.tf_journal.specs.Filter.{is_valid_account_filter, is_valid_query_filter};
 ghost use Rattle.tf_query.specs.Version.{ShowsLawfulJournal, journal_shown};
 
@@ -54,6 +54,22 @@ impl<'r, A: Allocator, N: Naming> Version<'r, A, N> {
         self.manifest.copy_from(manifest);
     }
 
+    /// A copy, by one pass over the references. It takes no memory.
+    pub fn again(&self) -> Version<'r, A, N>
+        ensures { result ≡ self.now }
+    {
+        Version {
+            manifest: self.manifest.again(),
+        }
+    }
+
+    /// Makes this what another version is, in place, by one pass over the references in use. It takes no memory.
+    pub fn copy_from(&mut self, other: &Version<'r, A, N>)
+        ensures { self.new ≡ other.now }
+    {
+        self.manifest.copy_from(&other.manifest);
+    }
+
     /// The transfers of an account that a filter asks for: those with the account on a side that is asked for.
     ///
     /// They stand by rising timestamp, or by falling where the filter is reversed, and are the first `BATCH_MAX`, or the
@@ -61,15 +77,17 @@ impl<'r, A: Allocator, N: Naming> Version<'r, A, N> {
     /// [`Refusal::NoMemory`] is the only refusal.
     ///
     /// It reads the timestamps of the account's transfers, of those with each field that is asked for, and of both sides,
-    /// side by side, and seeks from one to the next that all can have. Memory is taken for two boxes for each of them but
-    /// the first, once for as many timestamps as the limit, and once for the rows. Restates the reference page
-    /// get_account_transfers.
+    /// side by side, and seeks from one to the next that all can have. It reads them in parts of 256, none longer than what
+    /// is still asked for, so that few open few tables. Memory is taken for two boxes for each of them but the first, once
+    /// for the timestamps (just as many where one part has them all, else as many as the limit), and once for just as many
+    /// rows, into which each record is copied from its table. Restates the reference page get_account_transfers.
     pub fn get_account_transfers<B: Allocator + Copy>(
         &self,
         alloc: B,
         filter: &AccountFilter,
     ) -> Result<Vec<Transfer, B>, Refusal>
         ensures ok { IfOk result (λ rows. rows.items ≡ account_transfers_of self.now filter.now) }
+        ensures room { IfOk result (λ rows. vec_capacity rows ≤ min filter.now.limit answer_max) }
         ensures refusal { IfErr result (λ refusal. refusal ≡ Refusal.NoMemory) }
         ensures invalid { is_valid_account_filter filter.now ≡ false → IsOk result }
     {
@@ -87,6 +105,7 @@ impl<'r, A: Allocator, N: Naming> Version<'r, A, N> {
         filter: &AccountFilter,
     ) -> Result<Vec<AccountBalance, B>, Refusal>
         ensures ok { IfOk result (λ rows. rows.items ≡ history_of self.now filter.now) }
+        ensures room { IfOk result (λ rows. vec_capacity rows ≤ min filter.now.limit answer_max) }
         ensures refusal { IfErr result (λ refusal. refusal ≡ Refusal.NoMemory) }
         ensures invalid { is_valid_account_filter filter.now ≡ false → IsOk result }
     {
@@ -103,6 +122,7 @@ impl<'r, A: Allocator, N: Naming> Version<'r, A, N> {
         filter: &QueryFilter,
     ) -> Result<Vec<Account, B>, Refusal>
         ensures ok { IfOk result (λ rows. rows.items ≡ found_accounts_of self.now filter.now) }
+        ensures room { IfOk result (λ rows. vec_capacity rows ≤ min filter.now.limit answer_max) }
         ensures refusal { IfErr result (λ refusal. refusal ≡ Refusal.NoMemory) }
         ensures invalid { is_valid_query_filter filter.now ≡ false → IsOk result }
     {
@@ -119,6 +139,7 @@ impl<'r, A: Allocator, N: Naming> Version<'r, A, N> {
         filter: &QueryFilter,
     ) -> Result<Vec<Transfer, B>, Refusal>
         ensures ok { IfOk result (λ rows. rows.items ≡ found_transfers_of self.now filter.now) }
+        ensures room { IfOk result (λ rows. vec_capacity rows ≤ min filter.now.limit answer_max) }
         ensures refusal { IfErr result (λ refusal. refusal ≡ Refusal.NoMemory) }
         ensures invalid { is_valid_query_filter filter.now ≡ false → IsOk result }
     {
@@ -137,6 +158,7 @@ impl<'r, A: Allocator, N: Naming> Version<'r, A, N> {
         ids: &[u128],
     ) -> Result<Vec<Account, B>, Refusal>
         ensures ok { IfOk result (λ rows. rows.items ≡ looked_up_accounts self.now ids.now) }
+        ensures room { IfOk result (λ rows. vec_capacity rows ≡ length ids.now) }
         ensures refused { MatchOption (lookup_refusal (length ids.now))
             (IfErr result (λ refusal. refusal ≡ Refusal.NoMemory)) (λ refusal. result ≡ Err refusal) }
     {
@@ -154,6 +176,7 @@ impl<'r, A: Allocator, N: Naming> Version<'r, A, N> {
         ids: &[u128],
     ) -> Result<Vec<Transfer, B>, Refusal>
         ensures ok { IfOk result (λ rows. rows.items ≡ looked_up_transfers self.now ids.now) }
+        ensures room { IfOk result (λ rows. vec_capacity rows ≡ length ids.now) }
         ensures refused { MatchOption (lookup_refusal (length ids.now))
             (IfErr result (λ refusal. refusal ≡ Refusal.NoMemory)) (λ refusal. result ≡ Err refusal) }
     {

@@ -1,5 +1,6 @@
 use Rattle.std.proofs.Common.{◌≡◌, ◌∙◌, refl, sym, ap, subst, List, IfOk}
 use Rattle.std.specs.List.{filter_map}
+use Rattle.std.specs.Prelude.{vec_capacity}
 use Rattle.tf_records.specs.declared.account_balance.AccountBalance.{AccountBalance}
 use Rattle.tf_query.specs.Asked.{account_filter_at}
 use Rattle.tf_query.specs.Reads.{balance_in}
@@ -8,7 +9,7 @@ use Rattle.tf_journal.specs.Answer.{account_transfers_of, balance_after}
 use Rattle.tf_journal.specs.Filter.{account_search}
 use Rattle.tf_journal.specs.Journal.{transfers_of}
 use Rattle.tf_manifest.specs.Rows.{has_history}
-use Rattle.tf_query.proofs.Asked.{answered, no-history, nothing, nothing-of-history}
+use Rattle.tf_query.proofs.Asked.{answered, few-rows, no-history, nothing, nothing-of-history}
 use Rattle.tf_query.proofs.history.account_history.Goals as goal
 
 pub returns-in-Ok-clause-ok : goal.returns-in-Ok-clause-ok
@@ -31,3 +32,7 @@ returns-then-not-has_history-clause-ok g c journal sound shows =
     c.new-then-not-has_history.ensures.items
     ∙ no-history (balance_after journal c.args.filter.now.account_id) (has_history journal c.args.filter.now.account_id) (account_transfers_of journal c.args.filter.now)
     (sym (c.has_history.ensures journal sound shows) ∙ c.if-not-has_history.true)
+
+pub returns-in-Ok-clause-room : goal.returns-in-Ok-clause-room
+returns-in-Ok-clause-room g c =
+    few-rows c.balances_at.result (λ rows. vec_capacity rows) (account_window c.args.filter.now) (account_filter_at c.args.manifest.now c.args.filter.now) c.in-Ok.timestamps.items _ c.as_slice.ensures.value c.in-Ok.ensures.ok c.balances_at.ensures.room

@@ -1,7 +1,12 @@
-use Rattle.std.proofs.Common.{◌≡◌, take}
+use Rattle.std.proofs.Common.{◌≡◌, ◌≤◌, length, take}
 use Rattle.std.specs.List.{filter_map}
+use Rattle.std.specs.Prelude.{vec_capacity, vec_len}
 use Rattle.tf_query.specs.Reads.{balance_in}
 use Rattle.tf_query.proofs.reads.balances_at.Given as goal
 
 abbrev pub invariant-loop-timestamp : goal.invariant-loop-timestamp
-invariant-loop-timestamp g l = l.rows.items ≡ filter_map (balance_in l.manifest l.account_id) (take l.timestamp-index l.timestamps)
+invariant-loop-timestamp g l = record {
+  found : l.rows.items ≡ filter_map (balance_in l.manifest l.account_id) (take l.timestamp-index l.timestamps);
+  few : vec_len l.rows ≤ l.timestamp-index;
+  room : vec_capacity l.rows ≡ length l.timestamps;
+}

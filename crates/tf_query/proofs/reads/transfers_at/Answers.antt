@@ -1,7 +1,11 @@
-use Rattle.std.proofs.Common.{arith}
+use Rattle.std.proofs.Common.{arith, ◌∙◌}
 use Rattle.tf_query.specs.Reads.{transfer_in}
 use Rattle.tf_query.proofs.Found.{more-found}
 use Rattle.tf_query.proofs.reads.transfers_at.Goals as goal
 
 pub loop-timestamp-preserved : goal.loop-timestamp-preserved
-loop-timestamp-preserved g c = more-found (transfer_in c.args.manifest.now) c.args.timestamps.now c.loop-timestamp.timestamp-index _ _ _ _ (omega arith) c.transfer_at.ensures c.in_ok-push_found.ensures.ok c.loop-timestamp.invariant
+loop-timestamp-preserved g c = record {
+  found = more-found (transfer_in c.args.manifest.now) c.args.timestamps.now c.loop-timestamp.timestamp-index _ _ _ _ (omega arith) c.transfer_at.ensures c.push_record.ensures.items c.loop-timestamp.invariant.found;
+  few = omega (arith, c.push_record.ensures.len, c.loop-timestamp.invariant.few);
+  room = c.push_record.ensures.room ∙ c.loop-timestamp.invariant.room;
+}
