@@ -1,0 +1,17 @@
+//! The history of what was published: a journal that only grows, by one chunk of entries for each publication.
+//!
+//! It exists in proofs alone. What runs is one word, the number of publications, and the counts that a front has. A front
+//! says that the history has come so far, so of any two fronts one begins the other, whatever the schedule.
+#![tactic(auto)]
+
+mod adding;
+mod beginning;
+mod front;
+mod law;
+mod name;
+mod opened;
+
+pub use beginning::Beginning;
+pub use front::Front;
+pub use name::HistoryName;
+pub use opened::{Head, Opened};
