@@ -1,0 +1,18 @@
+//! What readers enter without a lock, and the readers: two copies of the version that was published last, each with the
+//! history as far as it goes.
+//!
+//! Readers take no memory and wait for nobody. Of any two journals that readers of one store have seen, one begins the
+//! other, whatever the schedule.
+#![tactic(auto)]
+
+mod copies;
+mod pages;
+mod publishable;
+mod published;
+mod reader;
+
+pub use copies::{Copies, open, show};
+pub use pages::{Page, empty_manifests_show_nothing, page_of};
+pub use publishable::Publishable;
+pub use published::Published;
+pub use reader::Reader;

@@ -1,0 +1,108 @@
+//! Readers.
+ghost use Rattle.std.specs.Prelude.{◌≡◌, true, false, take, IfNone, IfSome};
+ghost use mathlib.Core.List.{IsPrefix};
+ghost use Rattle.tf_history.specs.Beginning.{OneBegins, longer};
+ghost use Rattle.tf_journal.specs.Lawful.{IsLawful};
+ghost use Rattle.tf_readers.specs.Reader.{HasSeen};
+
+use crate::publishable::{Publishable, copy_of};
+use crate::published::Published;
+use left_right::ReadHandle;
+use std::alloc::Allocator;
+use std::marker::Model;
+use tf_history::{Beginning, Front, HistoryName};
+
+/// Who reads what is published, without a lock. Contracts see the journal that it has seen, and that of the version which it
+/// holds.
+///
+/// Its calls take no memory and wait for nobody. What it has seen only grows. The version that it holds is its own, and may be
+/// read while others are published.
+#[derive(Drop)]
+pub struct Reader<V: Publishable + Drop, A: Allocator, S: HistoryName> {
+    copies: ReadHandle<Published<V, S>, A>,
+    known: Beginning<S>,
+    page: Published<V, S>,
+}
+
+impl<V: Publishable + Drop, A: Allocator, S: HistoryName> Model for Reader<V, A, S> {
+    ghost use Rattle.tf_readers.specs.Reader.{ReaderView};
+
+    ghost Value = { ReaderView };
+
+    ghost view = { λ r. record { seen = r.known; held = r.page } };
+}
+
+impl<V: Publishable + Drop, A: Allocator, S: HistoryName> Reader<V, A, S> {
+    /// A reader of copies, which has seen a page.
+    pub(crate) fn new(
+        copies: ReadHandle<Published<V, S>, A>,
+        page: &Published<V, S>,
+    ) -> Reader<V, A, S>
+        ensures { HasSeen page.now result }
+    {
+        Reader {
+            copies,
+            known: Beginning::new(page.front(), page.front().len()),
+            page: page.again(),
+        }
+    }
+
+    /// The version that was published last, no older than all that this reader has seen, which it then has seen too.
+    ///
+    /// None where the copies are gone, or what they show is older than what was learned; all is then as before. Takes an
+    /// entry of a copy, and one pass over its references.
+    pub fn latest(&mut self) -> Option<V>
+        ensures lawful { IfSome result (λ version. IsLawful (V.journal version)) }
+        ensures later { IfSome result (λ version. IsPrefix self.old.seen (V.journal version)) }
+        ensures seen { IfSome result (λ version. self.new.seen ≡ V.journal version) }
+        ensures held { self.new.held ≡ self.old.held }
+        ensures none { IfNone result (self.new ≡ self.old) }
+    {
+        let page = self.copies.enter()?;
+        if !self.known.reach(page.front()) {
+            return None;
+        }
+        // Only the length of a front tells that its journal is lawful.
+        let _length = page.front().len();
+        Some(copy_of(page.version()))
+    }
+
+    /// Brings the version that this reader holds up to date, in place. It is then the one that was published last, no older
+    /// than all that this reader has seen, which it then has seen too.
+    ///
+    /// False where the copies are gone, or what they show is older than what was learned; all is then as before. Takes an
+    /// entry of a copy and, where something was published since, one pass over the references in use.
+    pub fn follow(&mut self) -> bool
+        ensures later { result ≡ true → IsPrefix self.old.seen self.new.held }
+        ensures seen { result ≡ true → self.new.seen ≡ self.new.held }
+        ensures none { result ≡ false → self.new ≡ self.old }
+    {
+        let Some(page) = self.copies.enter() else {
+            return false;
+        };
+        if !self.known.reach(page.front()) {
+            return false;
+        }
+        self.page.update(&page);
+        true
+    }
+
+    /// The version that this reader holds: that of its last `follow`, or of its start. It enters no copy.
+    pub fn held(&self) -> &V
+        ensures version { V.journal result.now ≡ self.now.held }
+        ensures lawful { IsLawful self.now.held }
+    {
+        let _length = self.page.front().len();
+        self.page.version()
+    }
+
+    /// Learns that the first `count` entries of a front were published, all where it has fewer: what was seen is then the
+    /// longer of both.
+    pub fn learn(&mut self, front: &Front<S>, count: u64)
+        ensures seen { self.new.seen ≡ longer self.old.seen (take count front.now) }
+        ensures one { OneBegins self.old.seen (take count front.now) }
+        ensures held { self.new.held ≡ self.old.held }
+    {
+        self.known.learn(front, count);
+    }
+}
