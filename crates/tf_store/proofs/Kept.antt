@@ -1,0 +1,251 @@
+-- What always holds of a store goes on to hold when its journal grows, when tables are installed, and when it is published.
+use mathlib.Core.List.{IsPrefix}
+use Rattle.std.proofs.Common.{◌≡◌, ℕ, ◌+◌, ◌≤◌, List, [], ◌∷◌, ◌++◌, refl, sym, subst, ap, arith, take, length, length-append, append-nil, ◌∙◌}
+use Rattle.std.proofs.lemmas.List.{take-append-le}
+use Rattle.std.proofs.lemmas.List.Elements.{All-head, All-nil, All-push, All-same, All-tail, All-weaker}
+use Rattle.std.proofs.Math.Seq.{take-append_seam, take-length}
+use Rattle.std.specs.List.{All}
+use Rattle.std.specs.Prelude.{map, Result, Ok, Err, IfOk, OnErr}
+use Rattle.tf_records.specs.declared.refusal.Refusal.{Refusal}
+use Rattle.tf_records.specs.declared.reply.Failure.{Failure}
+use Rattle.tf_journal.specs.declared.entry.Entry.{Entry}
+use Rattle.tf_journal.specs.Journal.{last_timestamp, timestamp_of}
+use Rattle.tf_journal.specs.Lawful.{IsLawful, IsLawfulAt, IsSound}
+use Rattle.tf_manifest.specs.View.{ShowsJournal, no_tables, View as Tables}
+use Rattle.tf_rows.specs.Counts.{Sealed, nothing_sealed}
+use Rattle.tf_forest.specs.Forest as forest
+use Rattle.tf_store.specs.Book.{book_of}
+use Rattle.tf_store.specs.Receipt.{Batch, IsReceipt, IsRun, ReceiptView, Waiting, Waits, count_of, receipt_of, step_of}
+use Rattle.tf_store.specs.Store.{IsStore}
+use Rattle.tf_store.proofs.Counting.{begins_more, map-append}
+use Rattle.tf_store.proofs.Runs.{Facts, facts, not_due}
+
+-- a beginning is no longer than the whole
+pub no_longer : (first whole : List Entry) → IsPrefix first whole → length first ≤ length whole
+no_longer first whole (more, is) = subst (λ l. length first ≤ length l) is (omega (arith, length-append first more))
+
+-- and where it is as long, it is the whole
+pub whole_beginning : (first whole : List Entry) → IsPrefix first whole → length whole ≤ length first → first ≡ whole
+whole_beginning first whole (more, is) long =
+    sym (take-append_seam first more) ∙ ap (take (length first)) is ∙ ap (λ n. take n whole) (omega (arith, long, no_longer first whole (more, is))) ∙ take-length whole
+
+-- what a beginning of a journal begins with, the whole begins with too
+pub same_beginning : (first whole : List Entry) (n : ℕ) → IsPrefix first whole → n ≤ length first → take n whole ≡ take n first
+same_beginning first whole n (more, is) within = ap (take n) (sym is) ∙ take-append-le n first more within
+
+-- a batch's receipt is the same in a longer journal
+pub same_receipt : (journal whole : List Entry) (waiting : Waiting) → IsPrefix journal whole → Waits journal waiting → receipt_of whole waiting ≡ receipt_of journal waiting
+same_receipt journal whole waiting begins waits =
+    let seen : List Entry → List Entry → ReceiptView = λ first second. record {
+      events = waiting.events;
+      moment = waiting.moment;
+      clock = waiting.clock;
+      reply = waiting.reply;
+      first = first;
+      second = second;
+    } in
+    ap (λ l. seen l (take waiting.after whole)) (same_beginning journal whole waiting.before begins waits.before)
+    ∙ ap (λ l. seen (take waiting.before journal) l) (same_beginning journal whole waiting.after begins waits.after)
+
+pub waits_on : (journal whole : List Entry) → IsPrefix journal whole → (waiting : Waiting) → Waits journal waiting → Waits whole waiting
+waits_on journal whole begins waiting waits =
+    let longer = no_longer journal whole begins in
+    record {
+      before = omega (arith, waits.before, longer);
+      after = omega (arith, waits.after, longer);
+      receipt = subst IsReceipt (sym (same_receipt journal whole waiting begins waits)) waits.receipt;
+    }
+
+pub all_wait_on : (journal whole : List Entry) (waiting : List Waiting) → IsPrefix journal whole → All (Waits journal) waiting → All (Waits whole) waiting
+all_wait_on journal whole waiting begins waits = All-weaker (Waits journal) (Waits whole) (waits_on journal whole begins) waiting waits
+
+pub same_receipts : (journal whole : List Entry) (waiting : List Waiting) → IsPrefix journal whole → All (Waits journal) waiting
+    → map (receipt_of whole) waiting ≡ map (receipt_of journal) waiting
+same_receipts journal whole [] begins waits = refl
+same_receipts journal whole (w ∷ waiting) begins waits =
+    let rest = same_receipts journal whole waiting begins (All-tail (Waits journal) w waiting waits) in
+    ap (λ r. r ∷ map (receipt_of whole) waiting) (same_receipt journal whole w begins (All-head (Waits journal) w waiting waits))
+    ∙ ap (λ l. receipt_of journal w ∷ l) rest
+
+-- the receipts that wait when one more does
+pub one_more_receipt : (journal whole : List Entry) (waiting : List Waiting) (w : Waiting) → IsPrefix journal whole → All (Waits journal) waiting
+    → map (receipt_of whole) (waiting ++ w ∷ []) ≡ map (receipt_of journal) waiting ++ receipt_of whole w ∷ []
+one_more_receipt journal whole waiting w begins waits =
+    map-append (receipt_of whole) waiting w ∙ ap (λ l. l ++ receipt_of whole w ∷ []) (same_receipts journal whole waiting begins waits)
+
+-- a batch that was just run, with the lengths before and after it
+abbrev pub ran : List Entry → List Entry → Batch → ℕ → ℕ → List Failure → Waiting
+ran journal whole events now clock reply = record {
+  events = events;
+  moment = now;
+  clock = clock;
+  reply = reply;
+  before = length journal;
+  after = length whole;
+}
+
+-- its receipt has both journals
+pub receipt_of_run : (journal whole : List Entry) (events : Batch) (now clock : ℕ) (reply : List Failure) → IsPrefix journal whole
+    → receipt_of whole (ran journal whole events now clock reply)
+    ≡ record { events = events; moment = now; clock = clock; reply = reply; first = journal; second = whole }
+receipt_of_run journal whole events now clock reply (more, is) =
+    let seen : List Entry → List Entry → ReceiptView = λ first second. record {
+      events = events;
+      moment = now;
+      clock = clock;
+      reply = reply;
+      first = first;
+      second = second;
+    } in
+    ap (λ l. seen l (take (length whole) whole)) (ap (take (length journal)) (sym is) ∙ take-append_seam journal more)
+    ∙ ap (λ l. seen journal l) (take-length whole)
+
+module _ {L : Type 0} (journal_of : L → List Entry) (clock_of kept_of : L → ℕ) (old new : L) where
+  -- and waits
+  pub run_waits : (events : Batch) (now : ℕ) (reply : List Failure) → IsRun journal_of clock_of kept_of old new events now (Ok reply)
+      → IsPrefix (journal_of old) (journal_of new) → Waits (journal_of new) (ran (journal_of old) (journal_of new) events now (clock_of old) reply)
+  run_waits events now reply run begins =
+      let f : Facts journal_of clock_of kept_of old new events now (Ok reply) = facts journal_of clock_of kept_of old new events now (Ok reply) run in
+      record {
+        before = no_longer (journal_of old) (journal_of new) begins;
+        after = omega arith;
+        receipt = subst IsReceipt (sym (receipt_of_run (journal_of old) (journal_of new) events now (clock_of old) reply begins)) (record {
+          due = not_due journal_of clock_of kept_of old new events now reply run;
+          stored = f.stored;
+          replied = f.reply;
+        });
+      }
+
+  -- what is kept is all, after a run too
+  pub run_kept : (events : Batch) (now : ℕ) (result : Result (List Failure) Refusal) → IsRun journal_of clock_of kept_of old new events now result
+      → kept_of old ≡ length (journal_of old) → kept_of new ≡ length (journal_of new)
+  run_kept events now (Ok reply) run kept = (facts journal_of clock_of kept_of old new events now (Ok reply) run).kept
+  run_kept events now (Err fault) run kept =
+      let same = (facts journal_of clock_of kept_of old new events now (Err fault) run).unchanged in
+      same.kept ∙ kept ∙ ap length (sym same.journal)
+
+  -- all that waited goes on waiting, and the batch that was stored waits behind it
+  pub all_wait : (events : Batch) (now : ℕ) (result : Result (List Failure) Refusal) → IsRun journal_of clock_of kept_of old new events now result
+      → IsPrefix (journal_of old) (journal_of new) → (before after : List Waiting)
+      → IfOk result (λ reply. after ≡ before ++ ran (journal_of old) (journal_of new) events now (clock_of old) reply ∷ []) → OnErr result (after ≡ before)
+      → All (Waits (journal_of old)) before → All (Waits (journal_of new)) after
+  all_wait events now (Ok reply) run begins before after is same waits =
+      All-same (Waits (journal_of new)) after (before ++ ran (journal_of old) (journal_of new) events now (clock_of old) reply ∷ []) is
+      (All-push (Waits (journal_of new)) before (ran (journal_of old) (journal_of new) events now (clock_of old) reply)
+      (all_wait_on (journal_of old) (journal_of new) before begins waits) (run_waits events now reply run begins))
+  all_wait events now (Err fault) run begins before after is same waits =
+      All-same (Waits (journal_of new)) after before same (all_wait_on (journal_of old) (journal_of new) before begins waits)
+
+  -- the receipts that wait then
+  pub receipts_wait : (events : Batch) (now : ℕ) (result : Result (List Failure) Refusal)
+      → IsPrefix (journal_of old) (journal_of new) → (before after : List Waiting)
+      → IfOk result (λ reply. after ≡ before ++ ran (journal_of old) (journal_of new) events now (clock_of old) reply ∷ [])
+      → All (Waits (journal_of old)) before
+      → IfOk result (λ reply. map (receipt_of (journal_of new)) after ≡ map (receipt_of (journal_of old)) before
+      ++ record { events = events; moment = now; clock = clock_of old; reply = reply; first = journal_of old; second = journal_of new } ∷ [])
+  receipts_wait events now (Ok reply) begins before after is waits =
+      let last = ran (journal_of old) (journal_of new) events now (clock_of old) reply in
+      ap (map (receipt_of (journal_of new))) is
+      ∙ one_more_receipt (journal_of old) (journal_of new) before last begins waits
+      ∙ ap (λ r. map (receipt_of (journal_of old)) before ++ r ∷ []) (receipt_of_run (journal_of old) (journal_of new) events now (clock_of old) reply begins)
+  receipts_wait events now (Err fault) begins before after is waits = tt
+
+  pub receipts_stay : (result : Result (List Failure) Refusal)
+      → IsPrefix (journal_of old) (journal_of new) → (before after : List Waiting) → OnErr result (after ≡ before)
+      → All (Waits (journal_of old)) before
+      → OnErr result (map (receipt_of (journal_of new)) after ≡ map (receipt_of (journal_of old)) before)
+  receipts_stay (Ok reply) begins before after is waits = tt
+  receipts_stay (Err fault) begins before after is waits =
+      ap (map (receipt_of (journal_of new))) is ∙ same_receipts (journal_of old) (journal_of new) before begins waits
+
+-- the store's promise when its journal went on
+pub store_grows : (old new : forest.View) (counted : ℕ) (tally : ℕ) (front : List Entry) (shown : ℕ) (waiting waits : List Waiting)
+    → IsStore old counted front shown waiting → IsLawfulAt new.clock new.journal → new.kept ≡ length new.journal → new.sealed ≡ old.sealed
+    → IsPrefix old.journal new.journal → tally ≡ book_of new.journal → All (Waits new.journal) waits
+    → IsStore new tally front shown waits
+store_grows old new counted tally front shown waiting waits store lawful kept sealed begins counts all =
+    let front_begins = begins_more front old.journal new.journal store.begins begins in
+    let within : shown ≤ length old.journal = omega (arith, store.shown, no_longer front old.journal store.begins) in
+    let same : take shown new.journal ≡ take shown old.journal = same_beginning old.journal new.journal shown begins within in
+    record {
+      lawful = lawful;
+      kept = kept;
+      counted = counts;
+      begins = front_begins;
+      shown = store.shown;
+      sound = subst IsLawful (sym same) store.sound;
+      published = subst (λ (s : Sealed). ShowsJournal s.tables (take shown new.journal)) (sym sealed) (subst (ShowsJournal old.sealed.tables) (sym same) store.published);
+      waits = all;
+    }
+
+-- and when its tables show all of it
+pub store_shows : (old new : forest.View) (counted : ℕ) (front : List Entry) (shown : ℕ) (waiting : List Waiting)
+    → IsStore old counted front shown waiting → new.journal ≡ old.journal → new.clock ≡ old.clock → new.kept ≡ old.kept
+    → ShowsJournal new.sealed.tables new.journal → (after : List Entry) → after ≡ new.journal → (all : ℕ) → all ≡ length after
+    → IsStore new counted after all waiting
+store_shows old new counted front shown waiting store journal clock kept shows after is all length_is =
+    let taken : take all new.journal ≡ new.journal = ap (λ n. take n new.journal) (length_is ∙ ap length is) ∙ take-length new.journal in
+    let lawful : IsLawfulAt new.clock new.journal =
+    subst (λ c. IsLawfulAt c new.journal) (sym clock) (subst (IsLawfulAt old.clock) (sym journal) store.lawful) in
+    record {
+      lawful = lawful;
+      kept = kept ∙ store.kept ∙ ap length (sym journal);
+      counted = store.counted ∙ ap book_of (sym journal);
+      begins = subst (λ l. IsPrefix l new.journal) (sym is) ([], append-nil new.journal);
+      shown = omega (arith, length_is);
+      sound = subst IsLawful (sym taken) lawful.lawful;
+      published = subst (ShowsJournal new.sealed.tables) (sym taken) shows;
+      waits = subst (λ l. All (Waits l) waiting) (sym journal) store.waits;
+    }
+
+-- and when its tables changed, but not their content, and the history may have gone further
+pub store_stays : (old new : forest.View) (counted : ℕ) (front : List Entry) (shown : ℕ) (waiting : List Waiting)
+    → IsStore old counted front shown waiting → new.journal ≡ old.journal → new.clock ≡ old.clock → new.kept ≡ old.kept
+    → (ShowsJournal old.sealed.tables (take shown old.journal) → ShowsJournal new.sealed.tables (take shown old.journal))
+    → (after : List Entry) → IsPrefix after old.journal → length front ≤ length after
+    → IsStore new counted after shown waiting
+store_stays old new counted front shown waiting store journal clock kept content after begins further = record {
+  lawful = subst (λ c. IsLawfulAt c new.journal) (sym clock) (subst (IsLawfulAt old.clock) (sym journal) store.lawful);
+  kept = kept ∙ store.kept ∙ ap length (sym journal);
+  counted = store.counted ∙ ap book_of (sym journal);
+  begins = subst (IsPrefix after) (sym journal) begins;
+  shown = omega (arith, store.shown, further);
+  sound = subst (λ l. IsLawful (take shown l)) (sym journal) store.sound;
+  published = subst (λ l. ShowsJournal new.sealed.tables (take shown l)) (sym journal) (content store.published);
+  waits = subst (λ l. All (Waits l) waiting) (sym journal) store.waits;
+}
+
+-- and when no receipt waits any more
+pub store_emptied : (forest : forest.View) (counted : ℕ) (front : List Entry) (shown : ℕ) (waiting : List Waiting)
+    → IsStore forest counted front shown waiting → IsStore forest counted front shown []
+store_emptied forest counted front shown waiting store = record {
+  lawful = store.lawful;
+  kept = store.kept;
+  counted = store.counted;
+  begins = store.begins;
+  shown = store.shown;
+  sound = store.sound;
+  published = store.published;
+  waits = All-nil (Waits forest.journal);
+}
+
+empty_lawful : IsLawful []
+empty_lawful = record {
+  sound = record { is_journal = record { rising = tt; in_range = All-nil (λ e. timestamp_of e ≤ last_timestamp) }; admitted = tt };
+  chained = tt;
+}
+
+-- and of a store in which nothing is stored
+pub store_new : (forest : forest.View) (counted : ℕ) (front : List Entry) (waiting : List Waiting) (limit : ℕ)
+    → forest.journal ≡ [] → forest.kept ≡ 0 → forest.sealed ≡ nothing_sealed limit → ShowsJournal (no_tables limit) []
+    → counted ≡ 0 → front ≡ [] → waiting ≡ [] → IsStore forest counted front 0 waiting
+store_new forest counted front waiting limit journal kept sealed nothing count none empty = record {
+  lawful = subst (IsLawfulAt forest.clock) (sym journal) (record { lawful = empty_lawful; up_to = All-nil (λ e. timestamp_of e ≤ forest.clock) });
+  kept = kept ∙ ap length (sym journal);
+  counted = count ∙ ap book_of (sym journal);
+  begins = (forest.journal, ap (λ l. l ++ forest.journal) none);
+  shown = omega arith;
+  sound = subst (λ l. IsLawful (take 0 l)) (sym journal) empty_lawful;
+  published = subst (λ (s : Sealed). ShowsJournal s.tables (take 0 forest.journal)) (sym sealed) (subst (λ l. ShowsJournal (no_tables limit) (take 0 l)) (sym journal) nothing);
+  waits = All-same (Waits forest.journal) waiting [] empty (All-nil (Waits forest.journal));
+}

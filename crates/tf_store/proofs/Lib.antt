@@ -1,0 +1,4 @@
+pub mod Counting
+pub mod Runs
+pub mod Kept
+pub mod Published

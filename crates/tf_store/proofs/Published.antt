@@ -1,0 +1,171 @@
+-- A forest that was prepared, shown and settled is published; and one that was prepared alone is as it was.
+use Rattle.std.proofs.Common.{◌≡◌, ◌≢◌, ◌∙◌, ◌+◌, ◌<◌, ◌≤◌, ℕ, cond, List, Option, Result, Ok, Err, IfErr, refl, length, sym, ap, subst, arith, rules}
+use Rattle.std.specs.Prelude.{◌==◌, if◌then◌else◌, take}
+use Rattle.std.proofs.lemmas.List.{length-take-le}
+use Rattle.tf_records.specs.declared.refusal.Refusal.{Refusal}
+use Rattle.tf_records.specs.declared.refusal.Refusal.TheVariants.{NoMemory, RegistryFull}
+use Rattle.tf_journal.specs.declared.entry.Entry.{Entry}
+use Rattle.tf_journal.specs.Lawful.{IsSound}
+use Rattle.tf_table.specs.declared.key.Key.{Key}
+use Rattle.tf_manifest.specs.declared.kind.Kind.{Kind}
+use Rattle.tf_manifest.specs.declared.kind.Kind.TheVariants as kind
+use Rattle.tf_manifest.specs.declared.row.Row.{Row}
+use Rattle.tf_manifest.specs.declared.value.Value.{Value}
+use Rattle.tf_manifest.specs.Kinds.{kind_of}
+use Rattle.tf_manifest.specs.Limit.{Pushed}
+use Rattle.tf_manifest.specs.View.{ShowsJournal, View as Tables, content_in, value_in_kind}
+use Rattle.tf_rows.specs.Counts.{Counted, IsReady, Loses, Sealed, counted, settled, with_lost}
+use Rattle.tf_publish.specs.Tables.{Publishes, Waits, by_name, nothing_fresh}
+use Rattle.tf_publish.proofs.Tables.{nothing_waits_fresh, nothing_waits_needed}
+use Rattle.tf_forest.specs.Forest.{View}
+use Rattle.tf_forest.specs.Unpublished.{IsUnpublished}
+use Rattle.tf_store.specs.Publish.{IsPublish}
+
+ok_not_full : {X : Type 0} (x : X) → Ok x ≡ Err RegistryFull → ⊥
+ok_not_full x is = cc
+
+-- what tables have doesn't depend on how many were pushed
+content_apart : (view : Tables) (pushed : Pushed) (r : Row) (key : Key) → content_in (record view { pushed = pushed }) r key ≡ content_in view r key
+content_apart view pushed r key = go (kind_of r) where
+  go : (k : Kind) → value_in_kind (record view { pushed = pushed }) key k ≡ value_in_kind view key k
+  go (kind.Stamp row) = refl
+  go kind.Account = refl
+  go kind.Transfer = refl
+  go kind.Id = refl
+  go (kind.Unit row) = refl
+  go kind.State = refl
+  go kind.Sums = refl
+  go kind.Status = refl
+
+-- so tables that were prepared alone show what they showed
+pub unpublished_shows : (old new : View) → IsUnpublished old new → (journal : List Entry) → ShowsJournal old.sealed.tables journal → ShowsJournal new.sealed.tables journal
+unpublished_shows old new lost journal shows r key =
+    let pushed : Pushed = record { count = old.sealed.tables.pushed.count + lost.loses.tables; limit = old.sealed.tables.pushed.limit } in
+    ap (λ (s : Sealed). content_in s.tables r key) lost.loses.is ∙ content_apart old.sealed.tables pushed r key ∙ shows r key
+
+unpublished_limit : (old new : View) → IsUnpublished old new → new.sealed.tables.pushed.limit ≡ old.sealed.tables.pushed.limit
+unpublished_limit old new lost = ap (λ (s : Sealed). s.tables.pushed.limit) lost.loses.is
+
+-- where nothing waits, all of the journal is shown already
+pub all_shown : (old : View) (shown : ℕ) → ((view : Tables) (first second : List Entry) → IsSound first → IsSound second → ShowsJournal view first → ShowsJournal view second → first ≡ second)
+    → shown ≤ length old.journal → IsSound old.journal → IsSound (take shown old.journal) → ShowsJournal old.sealed.tables (take shown old.journal) → ShowsJournal old.sealed.tables old.journal
+    → shown ≡ length old.journal
+all_shown old shown one within sound part published alone =
+    sym (length-take-le shown old.journal within) ∙ ap length (one old.sealed.tables (take shown old.journal) old.journal part sound published alone)
+
+-- a refusal, where something else would have been answered
+abbrev pub err_of : (X : Type 0) → Refusal → Result X Refusal
+err_of X refusal = Err refusal
+
+-- a refusal before anything was put in place
+pub refused_publish : {X : Type 0} (old new : View) (refusal : Refusal) → IsUnpublished old new → (old.waiting ≡ 0 → ⊥)
+    → (err_of X refusal ≡ Err RegistryFull → (new ≡ old) × (old.sealed.tables.pushed.limit < old.sealed.tables.pushed.count + old.needed))
+    → (refusal ≢ RegistryFull → (refusal ≡ NoMemory) × (old.sealed.tables.pushed.count + old.needed ≤ old.sealed.tables.pushed.limit))
+    → IsPublish {X = X} old new (Err refusal)
+refused_publish old new refusal lost some full other = record {
+  journal = ap (λ (v : View). v.journal) lost.is;
+  clock = ap (λ (v : View). v.clock) lost.is;
+  kept = ap (λ (v : View). v.kept) lost.is;
+  limit = unpublished_limit old new lost;
+  shows = tt;
+  rows = tt;
+  empty = tt;
+  all = tt;
+  pushed = tt;
+  sealed = tt;
+  publishes = tt;
+  fits = tt;
+  err = lost;
+  idle = λ none. absurd (some none);
+  still = λ none. absurd (some none);
+  full = full;
+  refused = other;
+}
+
+-- what is known of a forest that was prepared
+pub record IsPrepared (old mid : View) (p : Counted) : Type 0 where
+  pub lost : IsUnpublished old mid
+  pub shows : ShowsJournal p.tables mid.journal
+  pub publishes : Publishes (by_name old.fresh) (counted old.sealed) p
+  pub pushed : p.tables.pushed.count ≡ old.sealed.tables.pushed.count + old.needed
+  pub sealed : p.sealed ≡ old.sealed.counts.rows_sealed + old.waiting
+  pub ready : IsReady mid.sealed p
+  pub fits : old.sealed.tables.pushed.count + old.needed ≤ old.sealed.tables.pushed.limit
+  pub still : old.waiting ≡ 0 → mid ≡ old
+  pub equal : old.waiting ≡ 0 → p ≡ counted old.sealed
+
+module _ {X : Type 0} (old mid new : View) (p : Counted) (x : X) (is : IsPrepared old mid p) (waits : Waits old.fresh old.sealed.tables old.needed old.waiting)
+    (done : new ≡ record mid { sealed = settled p mid.sealed; fresh = nothing_fresh; needed = 0; waiting = 0 }) where
+  publishes_more : new.sealed.counts.publishes ≡ old.sealed.counts.publishes + (if old.needed == 0 then 0 else 1)
+  publishes_more =
+      let loses = is.lost.loses in
+      let lost : mid.sealed.tables.pushed.count ≡ old.sealed.tables.pushed.count + loses.tables = ap (λ (s : Sealed). s.tables.pushed.count) loses.is in
+      let ready = ap (λ (q : Pushed). q.count) is.ready.pushed in
+      let needed : loses.tables ≡ old.needed = omega (arith, lost, is.pushed, ready) in
+      ap (λ (v : View). v.sealed.counts.publishes) done
+      ∙ ap (λ (s : Sealed). s.counts.publishes) loses.is
+      ∙ ap (λ (n : ℕ). old.sealed.counts.publishes + cond (n == 0) 0 1) needed
+
+  rows_published : Publishes (by_name old.fresh) (counted old.sealed) (counted new.sealed)
+  rows_published =
+      subst (λ (v : View). Publishes (by_name old.fresh) (counted old.sealed) (counted v.sealed)) (sym done)
+      (subst (λ (h : ℕ). Publishes (by_name old.fresh) (counted old.sealed) (record { tables = p.tables; sealed = p.sealed; held = h })) is.ready.held is.publishes)
+
+  all_still : old.waiting ≡ 0 → new ≡ old
+  all_still none =
+      let fresh = nothing_waits_fresh old.fresh old.sealed.tables old.needed old.waiting waits none in
+      let needed = nothing_waits_needed old.fresh old.sealed.tables old.needed old.waiting waits none in
+      done
+      ∙ ap (λ (v : View). record v { sealed = settled p v.sealed; fresh = nothing_fresh; needed = 0; waiting = 0 }) (is.still none)
+      ∙ ap (λ (q : Counted). record old { sealed = settled q old.sealed; fresh = nothing_fresh; needed = 0; waiting = 0 }) (is.equal none)
+      ∙ ap (λ (w : ℕ). record old { fresh = nothing_fresh; needed = 0; waiting = w }) (sym none)
+      ∙ ap (λ (n : ℕ). record old { fresh = nothing_fresh; needed = n }) (sym needed)
+      ∙ ap (λ (f : List (List (Key × Option Value))). record old { fresh = f }) (sym fresh)
+
+  -- once it is settled, it is published
+  pub settled_publish : IsPublish {X = X} old new (Ok x)
+  settled_publish = record {
+    journal = ap (λ (v : View). v.journal) done ∙ ap (λ (v : View). v.journal) is.lost.is;
+    clock = ap (λ (v : View). v.clock) done ∙ ap (λ (v : View). v.clock) is.lost.is;
+    kept = ap (λ (v : View). v.kept) done ∙ ap (λ (v : View). v.kept) is.lost.is;
+    limit = ap (λ (v : View). v.sealed.tables.pushed.limit) done ∙ ap (λ (q : Pushed). q.limit) is.ready.pushed ∙ unpublished_limit old mid is.lost;
+    shows = subst (λ (v : View). ShowsJournal v.sealed.tables v.journal) (sym done) is.shows;
+    rows = rows_published;
+    empty = ap (λ (v : View). v.fresh) done;
+    all = (ap (λ (v : View). v.needed) done, ap (λ (v : View). v.waiting) done);
+    pushed = ap (λ (v : View). v.sealed.tables.pushed.count) done ∙ is.pushed;
+    sealed = ap (λ (v : View). v.sealed.counts.rows_sealed) done ∙ is.sealed;
+    publishes = publishes_more;
+    fits = is.fits;
+    err = tt;
+    idle = λ none. refl;
+    still = all_still;
+    full = λ (bad : Ok x ≡ Err RegistryFull). absurd (ok_not_full x bad);
+    refused = tt;
+  }
+
+-- whatever was answered with it
+pub published_as : {X Y : Type 0} (old new : View) (x : X) (y : Y) → IsPublish {X = X} old new (Ok x) → IsPublish {X = Y} old new (Ok y)
+published_as old new x y is = record {
+  journal = is.journal;
+  clock = is.clock;
+  kept = is.kept;
+  limit = is.limit;
+  shows = is.shows;
+  rows = is.rows;
+  empty = is.empty;
+  all = is.all;
+  pushed = is.pushed;
+  sealed = is.sealed;
+  publishes = is.publishes;
+  fits = is.fits;
+  err = tt;
+  idle = λ none. refl;
+  still = is.still;
+  full = λ bad. absurd (ok_not_full y bad);
+  refused = tt;
+}
+
+-- want of memory is no full registry
+pub memory_not_full : {X : Type 0} (refusal : Refusal) → refusal ≡ NoMemory → err_of X refusal ≡ Err RegistryFull → ⊥
+memory_not_full refusal is bad = cc

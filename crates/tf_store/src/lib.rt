@@ -1,0 +1,22 @@
+//! The store: what lies under the lock, with the shares and receipts that are of it.
+#![tactic(auto)]
+
+mod batches;
+mod compaction;
+mod events;
+mod gathering;
+mod names;
+mod opening;
+mod publishing;
+mod queue;
+mod receipt;
+mod run;
+mod share;
+mod store;
+mod tally;
+
+pub use events::Events;
+pub use names::{BlankStore, StoreName};
+pub use receipt::Receipt;
+pub use share::Share;
+pub use store::{Store, StoreOf, StoredForest};
