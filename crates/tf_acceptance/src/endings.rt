@@ -5,7 +5,7 @@ use std::io;
 use std::io::Write;
 use std::process::Abort;
 use std::test::Fail;
-use tf_main::{Ending, RunFault, report, run_script};
+use tf_main::{Ending, RunFault, report, run_script_plainly};
 
 const SCRIPT: &str = "# Two accounts and one transfer.
 accounts 1000
@@ -111,7 +111,7 @@ fn writer_that_fails_ends_the_run(rt: HostRuntime) {
             taken: Vec::new(rt.alloc()),
             room,
         };
-        match run_script(rt.alloc(), SCRIPT.as_bytes(), &mut out) {
+        match run_script_plainly(rt.alloc(), SCRIPT.as_bytes(), &mut out) {
             Err(RunFault::CannotWrite(error)) => {
                 assert!(rt; error.kind() == io::ErrorKind::StorageFull);
                 let ending = Ending::Fault(RunFault::CannotWrite(error));
@@ -125,7 +125,7 @@ fn writer_that_fails_ends_the_run(rt: HostRuntime) {
         taken: Vec::new(rt.alloc()),
         room: ANSWER.len(),
     };
-    assert!(rt; run_script(rt.alloc(), SCRIPT.as_bytes(), &mut out).is_ok());
+    assert!(rt; run_script_plainly(rt.alloc(), SCRIPT.as_bytes(), &mut out).is_ok());
     assert!(rt; out.taken.as_slice() == ANSWER.as_bytes());
 }
 
@@ -166,7 +166,7 @@ fn nothing_is_written_after_a_failure(rt: HostRuntime) {
             room,
             has_failed: false,
         };
-        let outcome = run_script(rt.alloc(), SCRIPT.as_bytes(), &mut out);
+        let outcome = run_script_plainly(rt.alloc(), SCRIPT.as_bytes(), &mut out);
         assert!(rt; outcome.is_err(), "room for {room}");
         assert!(rt; out.taken.as_slice() == &ANSWER.as_bytes()[..room]);
     }
@@ -201,7 +201,7 @@ fn interrupted_write_is_tried_again(rt: HostRuntime) {
         taken: Vec::new(rt.alloc()),
         was_interrupted: false,
     };
-    assert!(rt; run_script(rt.alloc(), SCRIPT.as_bytes(), &mut out).is_ok());
+    assert!(rt; run_script_plainly(rt.alloc(), SCRIPT.as_bytes(), &mut out).is_ok());
     assert!(rt; out.taken.as_slice() == ANSWER.as_bytes());
 }
 
@@ -221,7 +221,7 @@ impl Write for TakesNothing {
 
 #[test]
 fn writer_that_takes_nothing_ends_the_run(rt: HostRuntime) {
-    match run_script(rt.alloc(), SCRIPT.as_bytes(), &mut TakesNothing) {
+    match run_script_plainly(rt.alloc(), SCRIPT.as_bytes(), &mut TakesNothing) {
         Err(RunFault::CannotWrite(error)) => {
             assert!(rt; error.kind() == io::ErrorKind::WriteZero);
         }
@@ -235,7 +235,7 @@ fn want_of_memory_leaves_whole_answers(rt: HostRuntime) -> Result<(), Fail> {
     for size in 1..64usize {
         let heap = LocalHeap::new(rt.alloc(), size * 64)?;
         let mut out = Vec::new(rt.alloc());
-        match run_script(&heap, SCRIPT.as_bytes(), &mut out) {
+        match run_script_plainly(&heap, SCRIPT.as_bytes(), &mut out) {
             Ok(()) => {
                 assert!(rt; out.as_slice() == ANSWER.as_bytes());
                 answered = true;

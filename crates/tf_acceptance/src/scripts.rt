@@ -8,13 +8,13 @@ use crate::rows::queries::QUERIES;
 use crate::rows::recipes::RECIPES;
 use std::process::Abort;
 use std::test::Fail;
-use tf_main::{RunFault, run_script};
+use tf_main::{RunFault, run_script_plainly};
 
 /// Runs each script over an empty ledger and compares what it writes.
 fn assert_answered(rt: &(impl Abort + AllocGlobal), rows: &[Row]) -> Result<(), Fail> {
     for row in rows {
         let mut out = Vec::new(rt.alloc());
-        run_script(rt.alloc(), row.script.as_bytes(), &mut out)?;
+        run_script_plainly(rt.alloc(), row.script.as_bytes(), &mut out)?;
         assert!(rt; out.as_slice() == row.output.as_bytes(), "{}", row.name);
     }
     Ok(())
@@ -80,7 +80,7 @@ fn small_scripts_print_their_output(rt: HostRuntime) {
     ];
     for (script, answer) in table {
         let mut out = Vec::new(rt.alloc());
-        let outcome = run_script(rt.alloc(), script.as_bytes(), &mut out);
+        let outcome = run_script_plainly(rt.alloc(), script.as_bytes(), &mut out);
         assert!(rt; outcome.is_ok(), "{script}");
         assert!(rt; out.as_slice() == answer.as_bytes(), "{script}");
     }
@@ -106,7 +106,7 @@ fn a_script_with_a_fault_runs_nothing(rt: HostRuntime) {
     ];
     for (script, at_line, at_column) in scripts {
         let mut out = Vec::new(rt.alloc());
-        let outcome = run_script(rt.alloc(), script.as_bytes(), &mut out);
+        let outcome = run_script_plainly(rt.alloc(), script.as_bytes(), &mut out);
         let Err(RunFault::BadLine { line, column }) = outcome else {
             panic!(rt; "no fault in {script}");
         };

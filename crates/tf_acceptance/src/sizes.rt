@@ -2,7 +2,7 @@
 
 use std::alloc::AllocError;
 use std::test::Fail;
-use tf_main::run_script;
+use tf_main::run_script_plainly;
 
 /// Adds a batch of transfers of 1 between accounts 1 and 2, with the ids of the range, each with further fields.
 fn push_batch(
@@ -43,7 +43,7 @@ fn a_batch_has_at_most_8190_events(rt: HostRuntime) -> Result<(), Fail> {
     push_batch(&rt, &mut script, "0", 1, 8191, "")?;
     push_batch(&rt, &mut script, "0", 1, 8190, "")?;
     let mut out = Vec::new(rt.alloc());
-    run_script(rt.alloc(), script.as_bytes(), &mut out)?;
+    run_script_plainly(rt.alloc(), script.as_bytes(), &mut out)?;
     assert!(rt; out.as_slice() == "clock 1002\nrefused batch_too_large\nclock 9192\n".as_bytes());
     Ok(())
 }
@@ -54,7 +54,7 @@ fn a_batch_too_large_is_that_whatever_its_moment(rt: HostRuntime) -> Result<(), 
     push_batch(&rt, &mut script, "max", 1, 8191, "")?;
     push_batch(&rt, &mut script, "max", 1, 1, "")?;
     let mut out = Vec::new(rt.alloc());
-    run_script(rt.alloc(), script.as_bytes(), &mut out)?;
+    run_script_plainly(rt.alloc(), script.as_bytes(), &mut out)?;
     let answer = "clock 1002\nrefused batch_too_large\nrefused clock_exhausted\n";
     assert!(rt; out.as_slice() == answer.as_bytes());
     Ok(())
@@ -68,7 +68,7 @@ fn a_pulse_expires_at_most_8190(rt: HostRuntime) -> Result<(), Fail> {
     push_batch(&rt, &mut script, "0", 8191, 8191, pending)?;
     script.push_str("pulse 9000000000 max\npulse 0 max\npulse 0 max\n")?;
     let mut out = Vec::new(rt.alloc());
-    run_script(rt.alloc(), script.as_bytes(), &mut out)?;
+    run_script_plainly(rt.alloc(), script.as_bytes(), &mut out)?;
     let answer = "clock 1002\nclock 9192\nclock 9193\n\
          expired 8190\nclock 9000008190\nexpired 1\nclock 9000008191\nexpired 0\nclock 9000008191\n";
     assert!(rt; out.as_slice() == answer.as_bytes());
@@ -81,7 +81,7 @@ fn a_look_up_has_at_most_8190_ids(rt: HostRuntime) -> Result<(), Fail> {
     push_lookup(&mut script, 8190)?;
     push_lookup(&mut script, 8191)?;
     let mut out = Vec::new(rt.alloc());
-    run_script(rt.alloc(), script.as_bytes(), &mut out)?;
+    run_script_plainly(rt.alloc(), script.as_bytes(), &mut out)?;
     assert!(rt; out.as_slice() == "clock 1002\nrows 0\nrefused batch_too_large\n".as_bytes());
     Ok(())
 }
@@ -99,7 +99,7 @@ fn an_answer_has_at_most_8190_rows(rt: HostRuntime) -> Result<(), Fail> {
     script.push_str("query_transfers limit=max\n")?;
     script.push_str("get_account_transfers account_id=1 limit=8191 flags=debits|reversed\n")?;
     let mut out = Vec::new(rt.alloc());
-    run_script(rt.alloc(), script.as_bytes(), &mut out)?;
+    run_script_plainly(rt.alloc(), script.as_bytes(), &mut out)?;
     // three clocks, and twice 8,190 rows with their count
     assert_eq!(rt; line_count(out.as_slice()), 3 + 2 * 8191);
     assert!(rt;

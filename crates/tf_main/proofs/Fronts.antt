@@ -53,7 +53,8 @@ pub record AppendsBefore (old new : Option (List ℕ)) (rest bytes : List ℕ) :
   pub parts : front ++ rest ≡ bytes
   pub appended : Appends old new front
 
-Appends-nothing : (old : Option (List ℕ)) → Appends old old []
+-- nothing was appended
+pub Appends-nothing : (old : Option (List ℕ)) → Appends old old []
 Appends-nothing None = tt
 Appends-nothing (Some xs) = sym (append-nil xs)
 

@@ -2,6 +2,7 @@
 pub mod Ending
 pub mod Line
 pub mod Script
+pub mod Engine
 pub mod Output
 -- What contracts of its parts and proofs alone speak of.
 pub mod Run

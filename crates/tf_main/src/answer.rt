@@ -1,10 +1,10 @@
 //! What is printed of an outcome: its lines, or the line of its refusal.
 
-ghost use Rattle.tf_main.specs.Line.{batch_lines, pulse_lines, query_lines};
+ghost use Rattle.tf_main.specs.Line.{batch_lines, compacted_line, published_line, pulse_lines, query_lines};
 ghost use Rattle.tf_main.specs.Run.{IsPrinted, IsRefusalPrinted};
 
 use crate::RunFault;
-use crate::line::{write_pulse, write_refusal, write_reply};
+use crate::line::{write_compacted, write_published, write_pulse, write_refusal, write_reply};
 use crate::row::{Row, write_rows};
 use std::alloc::Allocator;
 use std::io::Write;
@@ -46,6 +46,26 @@ pub fn write_pulsed<W: Write>(
 {
     match outcome {
         Ok(count) => write_pulse(count, clock, out).map_err(RunFault::CannotWrite),
+        Err(refusal) => write_refused(refusal, out),
+    }
+}
+
+/// Writes the line of a publish, or that of its refusal.
+pub fn write_publish<W: Write>(outcome: Result<(), Refusal>, out: &mut W) -> Result<(), RunFault>
+    ensures { IsPrinted (λ done. published_line) outcome (W.contents out.old) (W.contents out.new) result }
+{
+    match outcome {
+        Ok(()) => write_published(out).map_err(RunFault::CannotWrite),
+        Err(refusal) => write_refused(refusal, out),
+    }
+}
+
+/// Writes the line of a compaction, or that of its refusal.
+pub fn write_compaction<W: Write>(outcome: Result<(), Refusal>, out: &mut W) -> Result<(), RunFault>
+    ensures { IsPrinted (λ done. compacted_line) outcome (W.contents out.old) (W.contents out.new) result }
+{
+    match outcome {
+        Ok(()) => write_compacted(out).map_err(RunFault::CannotWrite),
         Err(refusal) => write_refused(refusal, out),
     }
 }

@@ -1,17 +1,22 @@
-//! Runs scripts over a ledger and prints their answers; how the program ends.
+//! Runs scripts and prints their answers; how the program ends.
 //!
-//! [`run_script`] reads a whole script, runs its commands one after another over an empty ledger and
-//! writes the lines of each. [`report`] writes the program's last line and answers its exit status.
+//! [`read_script`] reads a whole script, and [`run_commands`] runs its commands one after another by any [`Engine`] and
+//! writes the lines of each. [`run_script_plainly`] does both over an empty plain ledger. [`report`] writes the program's
+//! last line and answers its exit status.
 #![tactic(auto)]
 
 mod answer;
 mod ending;
+mod engine;
 mod fault;
 mod line;
 mod output;
+mod plain;
 mod row;
 mod run;
 
 pub use ending::{Ending, report};
+pub use engine::Engine;
 pub use fault::RunFault;
-pub use run::run_script;
+pub use plain::{Plain, run_script_plainly};
+pub use run::{read_script, run_commands};

@@ -5,7 +5,7 @@ use std::io::{BufWriter, ErrorKind, Write};
 use std::process::ExitCode;
 use std::rt::{Env, Files};
 use std::{env, fs, io};
-use tf_main::{Ending, RunFault, report, run_script};
+use tf_main::{Ending, RunFault, report, run_script_plainly};
 
 fn main(rt: HostRuntime) -> ExitCode {
     let ending = run(&rt);
@@ -40,7 +40,7 @@ fn run_file<R: Files + Print + AllocGlobal>(rt: &R, name: String) -> Ending {
     let Ok(mut out) = BufWriter::new(rt.alloc(), io::writer(rt)) else {
         return Ending::Fault(RunFault::NoMemory);
     };
-    let outcome = run_script(rt.alloc(), script.as_slice(), &mut out);
+    let outcome = run_script_plainly(rt.alloc(), script.as_slice(), &mut out);
     let flushed = out.flush().map_err(RunFault::CannotWrite);
     match outcome.and(flushed) {
         Ok(()) => Ending::Done,
