@@ -1,0 +1,180 @@
+//! Requests for memory that are refused, each in turn.
+ghost use Rattle.std.specs.Prelude.{◌≡◌, length};
+
+use crate::alike::assert_alike;
+use crate::answers::assert_answers;
+use crate::commands::run;
+use crate::counted::{Counted, references};
+use crate::events::{accounts, round};
+use crate::memory::all_but;
+use crate::opening::AMPLE;
+use crate::twin::Twin;
+use linked_list_allocator::LocalHeap;
+use std::alloc::{Allocator, Global};
+use std::process::Abort;
+use std::sync::Wait;
+use std::test::Fail;
+use tf_records::Refusal;
+use tf_rows::SealRows;
+use tf_script::Command;
+use tf_store::{Share, StoreName, StoreOf};
+
+/// How many bytes more are free at each further try.
+const STEP: usize = 3 * OFFSET;
+
+/// How many bytes more are free at the first try of each further round, up to the third.
+const OFFSET: usize = 48;
+
+/// Runs a batch or a pulse with hardly any room at first and then more and more, until it isn't refused any more. After each
+/// refusal all is as before, and at last it answers as the plain ledger does. Tells how often it was refused.
+fn run_at_last<'r, T: SealRows<A> + Drop, A: Allocator + Copy, S: StoreName>(
+    rt: &(impl Abort + AllocGlobal),
+    heap: &LocalHeap,
+    store: &mut StoreOf<'r, T, A, S>,
+    share: &mut Share<S>,
+    twin: &mut Twin,
+    command: &Command<Global>,
+    least: usize,
+) -> Result<usize, Fail> {
+    let before = (share.count(), Counted::of(store));
+    for refused in 0..AMPLE / STEP {
+        let taken = all_but(rt.alloc(), heap, (refused * STEP).saturating_add(least))?;
+        let outcome = run(store, share, command);
+        drop(taken);
+        if !matches!(outcome, Err(Refusal::NoMemory)) {
+            twin.follow(rt, store, &outcome, command)?;
+            return Ok(refused);
+        }
+        assert_alike(rt, store, twin.plain());
+        assert_eq!(rt; (share.count(), Counted::of(store)), before);
+    }
+    Err(Fail::new("refused with ample memory"))
+}
+
+/// A refused publish has left all as before, but for tables that were pushed.
+fn assert_unpublished<'r, T: SealRows<A> + Drop, A: Allocator + Copy, S: StoreName>(
+    rt: &impl Abort,
+    store: &StoreOf<'r, T, A, S>,
+    twin: &Twin,
+    before: &Counted,
+) {
+    assert_alike(rt, store, twin.plain());
+    assert_eq!(rt; references(store), before.references);
+    assert!(rt; store.registered() >= before.registered);
+    assert!(rt; store.rows_held() <= store.rows_sealed().wrapping_mul(21));
+}
+
+/// Publishes with hardly any room at first and then more and more. At last it hands out the receipts of all that waited. Tells
+/// how often it was refused.
+fn publish_at_last<'r, T: SealRows<A> + Drop, A: Allocator + Copy, S: StoreName>(
+    rt: &(impl Abort + AllocGlobal + Wait),
+    heap: &LocalHeap,
+    store: &mut StoreOf<'r, T, A, S>,
+    twin: &mut Twin,
+    least: usize,
+) -> Result<usize, Fail> {
+    let before = Counted::of(store);
+    for refused in 0..AMPLE / STEP {
+        let taken = all_but(rt.alloc(), heap, (refused * STEP).saturating_add(least))?;
+        let outcome = store.publish(rt);
+        drop(taken);
+        match outcome {
+            Ok(receipts) => {
+                twin.assert_receipts(rt, receipts.as_slice());
+                assert_alike(rt, store, twin.plain());
+                return Ok(refused);
+            }
+            Err(refusal) => assert_eq!(rt; refusal, Refusal::NoMemory),
+        }
+        assert_unpublished(rt, store, twin, &before);
+    }
+    Err(Fail::new("refused with ample memory"))
+}
+
+/// Takes a version with hardly any room at first and then more and more. At last it answers as the plain ledger does, and
+/// receipts go on waiting. Tells how often it was refused.
+fn take_version_at_last<'r, T: SealRows<A> + Drop, A: Allocator + Copy, S: StoreName>(
+    rt: &(impl Abort + AllocGlobal + Wait),
+    heap: &LocalHeap,
+    store: &mut StoreOf<'r, T, A, S>,
+    twin: &Twin,
+    least: usize,
+) -> Result<usize, Fail> {
+    let before = Counted::of(store);
+    for refused in 0..AMPLE / STEP {
+        let taken = all_but(rt.alloc(), heap, (refused * STEP).saturating_add(least))?;
+        let outcome = store.take_version(rt);
+        drop(taken);
+        match outcome {
+            Ok(version) => {
+                let _rows = assert_answers(rt, &version, twin.plain())?;
+                return Ok(refused);
+            }
+            Err(refusal) => assert_eq!(rt; refusal, Refusal::NoMemory),
+        }
+        assert_unpublished(rt, store, twin, &before);
+    }
+    Err(Fail::new("refused with ample memory"))
+}
+
+/// A publish that is refused in turn. In each second round a version is taken first, which publishes too, but for receipts.
+fn assert_publish_refused<'r, T: SealRows<A> + Drop, A: Allocator + Copy, S: StoreName>(
+    rt: &(impl Abort + AllocGlobal + Wait),
+    heap: &LocalHeap,
+    store: &mut StoreOf<'r, T, A, S>,
+    twin: &mut Twin,
+    number: u64,
+    least: usize,
+) -> Result<(), Fail> {
+    let is_second = number % 2 == 1;
+    if is_second {
+        let refused = take_version_at_last(rt, heap, store, twin, least)?;
+        assert!(rt; refused > 2, "a version was refused {refused} times");
+    }
+    let refused = publish_at_last(rt, heap, store, twin, least)?;
+    assert_eq!(rt; refused > 2, !is_second, "refused {refused} times");
+    Ok(())
+}
+
+/// Batches, a pulse and a publish, each refused in turn.
+fn assert_round_refused<'r, T: SealRows<A> + Drop, A: Allocator + Copy, S: StoreName>(
+    rt: &(impl Abort + AllocGlobal + Wait),
+    heap: &LocalHeap,
+    store: &mut StoreOf<'r, T, A, S>,
+    share: &mut Share<S>,
+    twin: &mut Twin,
+    number: u64,
+) -> Result<(), Fail> {
+    let least = (number as usize % 3) * OFFSET;
+    let commands = round(rt.alloc(), number)?;
+    for (place, command) in commands.iter().enumerate() {
+        if let Command::Publish = command {
+            assert_publish_refused(rt, heap, store, twin, number, least)?;
+        } else {
+            let refused = run_at_last(rt, heap, store, share, twin, command, least)?;
+            assert!(rt; refused > 2, "command {place} was refused {refused} times");
+        }
+    }
+    Ok(())
+}
+
+/// Four rounds of calls, each refused in turn.
+pub fn assert_refused_in_turn<'r, T: SealRows<A> + Drop, A: Allocator + Copy, S: StoreName>(
+    rt: &(impl Abort + AllocGlobal + Wait),
+    alloc: A,
+    heap: &LocalHeap,
+    store: &mut StoreOf<'r, T, A, S>,
+    shares: &mut [Share<S>],
+) -> Result<(), Fail>
+    requires { length shares.old ≡ 64 }
+    ensures { length shares.new ≡ 64 }
+{
+    let mut twin = Twin::new(rt.alloc());
+    let first = [accounts(rt.alloc())?, Command::Publish];
+    twin.run_all(rt, alloc, store, shares, &first)?;
+    let share = &mut shares[0];
+    for number in 0..4 {
+        assert_round_refused(rt, heap, store, share, &mut twin, number)?;
+    }
+    Ok(())
+}

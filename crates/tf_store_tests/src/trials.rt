@@ -1,0 +1,187 @@
+//! What is tried of stores.
+ghost use Rattle.std.specs.Prelude.{◌≡◌, length};
+
+use crate::batches::assert_limits_of_batches;
+use crate::dropped::drop_after_calls;
+use crate::idle::assert_idle_publish_takes_nothing;
+use crate::installs::{FIVE_PUBLISHES, assert_install_hands_back, assert_install_is_refused};
+use crate::limits::{assert_18_are_published, assert_18_are_refused};
+use crate::merges::assert_rows_are_merged;
+use crate::opening::try_out;
+use crate::pulses::assert_pulses_are_counted;
+use crate::receipts::assert_receipts_are_handed_out;
+use crate::refusals::assert_refused_in_turn;
+use crate::shares::assert_each_share_counts;
+use crate::versions::{assert_random_alike, assert_version_stays};
+use linked_list_allocator::LocalHeap;
+use std::alloc::Allocator;
+use std::process::Abort;
+use std::sync::Wait;
+use std::test::Fail;
+use tf_manifest::Pushes;
+use tf_rows::SealRows;
+use tf_store::{Share, StoreName, StoreOf};
+
+/// What is tried of an empty store with 64 shares.
+#[derive(Clone, Copy)]
+pub enum Trial {
+    /// A store is opened without memory.
+    Unopened,
+    /// Each share stores something.
+    Shares,
+    /// Receipts of a worked example.
+    Receipts,
+    /// Expiries of a worked example.
+    Pulses,
+    /// A version is kept while the store goes on.
+    Version,
+    /// A publish of 18 tables under a limit of 17.
+    Full,
+    /// A publish of 18 tables under a limit of 18.
+    Fits,
+    /// An install where as many tables as may be were pushed.
+    FullInstall,
+    /// An install that is refused memory.
+    InstallRefused,
+    /// Merges of each row.
+    Merges,
+    /// Publishes where nothing was stored.
+    Idle,
+    /// Batches past their limits.
+    Batches,
+    /// Requests for memory are refused in turn.
+    Refusals,
+    /// Calls with so much room, after which the store is dropped.
+    Dropped(usize),
+    /// Random commands.
+    Random(u64),
+}
+
+impl Trial {
+    /// How many tables may be pushed.
+    pub fn limit(self) -> u32 {
+        match self {
+            Trial::Full => 17,
+            Trial::Fits => 18,
+            Trial::FullInstall => FIVE_PUBLISHES,
+            _ => Pushes::MOST,
+        }
+    }
+
+    /// Whether the store's heap has no byte left when it is opened.
+    pub fn lacks_memory(self) -> bool {
+        matches!(self, Trial::Unopened)
+    }
+
+    /// Runs the trial on a store that lies on a heap.
+    pub fn run<'r, T: SealRows<A> + Drop, A: Allocator + Copy, S: StoreName>(
+        self,
+        rt: &(impl Abort + AllocGlobal + Wait),
+        alloc: A,
+        heap: &LocalHeap,
+        store: &mut StoreOf<'r, T, A, S>,
+        shares: &mut [Share<S>],
+    ) -> Result<(), Fail>
+        requires { length shares.old ≡ 64 }
+        ensures { length shares.new ≡ 64 }
+    {
+        match self {
+            Trial::Unopened => Err(Fail::new("opened without memory")),
+            Trial::Shares => assert_each_share_counts(rt, alloc, store, shares),
+            Trial::Receipts => assert_receipts_are_handed_out(rt, alloc, store, shares),
+            Trial::Pulses => assert_pulses_are_counted(rt, alloc, store, shares),
+            Trial::Version => assert_version_stays(rt, alloc, store, shares),
+            Trial::Full => assert_18_are_refused(rt, alloc, store, shares),
+            Trial::Fits => assert_18_are_published(rt, alloc, store, shares),
+            Trial::FullInstall => assert_install_is_refused(rt, alloc, store, shares),
+            Trial::InstallRefused => assert_install_hands_back(rt, alloc, heap, store, shares),
+            Trial::Merges => assert_rows_are_merged(rt, alloc, store, shares),
+            Trial::Idle => assert_idle_publish_takes_nothing(rt, alloc, heap, store, shares),
+            Trial::Batches => assert_limits_of_batches(rt, alloc, heap, store, shares),
+            Trial::Refusals => assert_refused_in_turn(rt, alloc, heap, store, shares),
+            Trial::Dropped(room) => drop_after_calls(rt, alloc, heap, store, shares, room),
+            Trial::Random(seed) => assert_random_alike(rt, alloc, store, shares, seed),
+        }
+    }
+}
+
+#[test]
+fn a_store_is_not_opened_without_memory(rt: HostRuntime) -> Result<(), Fail> {
+    try_out(&rt, Trial::Unopened)
+}
+
+#[test]
+fn each_of_64_shares_counts_what_was_stored_with_it(rt: HostRuntime) -> Result<(), Fail> {
+    try_out(&rt, Trial::Shares)
+}
+
+#[test]
+fn a_publish_hands_out_the_receipts_of_all_that_waited(rt: HostRuntime) -> Result<(), Fail> {
+    try_out(&rt, Trial::Receipts)
+}
+
+#[test]
+fn expiries_count_in_a_share_and_leave_no_receipt(rt: HostRuntime) -> Result<(), Fail> {
+    try_out(&rt, Trial::Pulses)
+}
+
+#[test]
+fn a_version_stays_whatever_happens_to_its_store(rt: HostRuntime) -> Result<(), Fail> {
+    try_out(&rt, Trial::Version)
+}
+
+#[test]
+fn a_publish_of_18_tables_is_refused_under_a_limit_of_17_alone(
+    rt: HostRuntime,
+) -> Result<(), Fail> {
+    try_out(&rt, Trial::Full)?;
+    try_out(&rt, Trial::Fits)
+}
+
+#[test]
+fn an_install_past_the_limit_is_refused(rt: HostRuntime) -> Result<(), Fail> {
+    try_out(&rt, Trial::FullInstall)
+}
+
+#[test]
+fn an_install_that_was_refused_memory_hands_its_table_back(rt: HostRuntime) -> Result<(), Fail> {
+    try_out(&rt, Trial::InstallRefused)
+}
+
+#[test]
+fn each_row_is_merged_to_the_end_and_second_merges_are_stale(rt: HostRuntime) -> Result<(), Fail> {
+    try_out(&rt, Trial::Merges)
+}
+
+#[test]
+fn a_publish_where_nothing_was_stored_takes_no_memory(rt: HostRuntime) -> Result<(), Fail> {
+    try_out(&rt, Trial::Idle)
+}
+
+#[test]
+fn batches_past_their_limits_are_refused_before_memory_is_taken(
+    rt: HostRuntime,
+) -> Result<(), Fail> {
+    try_out(&rt, Trial::Batches)
+}
+
+#[test]
+fn a_store_that_was_refused_memory_is_as_before(rt: HostRuntime) -> Result<(), Fail> {
+    try_out(&rt, Trial::Refusals)
+}
+
+#[test]
+fn a_store_that_is_dropped_after_refusals_frees_its_heap(rt: HostRuntime) -> Result<(), Fail> {
+    for room in 0..40usize {
+        try_out(&rt, Trial::Dropped(room * 256))?;
+    }
+    Ok(())
+}
+
+#[test]
+fn a_store_answers_random_commands_as_the_plain_ledger_does(rt: HostRuntime) -> Result<(), Fail> {
+    for seed in 0..60 {
+        try_out(&rt, Trial::Random(seed))?;
+    }
+    Ok(())
+}
