@@ -80,19 +80,12 @@ impl Batches {
         self.worst = 0;
     }
 
-    /// How long all batches took together.
-    pub fn whole(self) -> Measured {
+    /// How long the batches took.
+    pub fn measured(self) -> Measured {
         Measured {
             checksum: self.checksum(),
             nanoseconds: self.nanoseconds,
-        }
-    }
-
-    /// How long that batch took that took longest.
-    pub fn worst(self) -> Measured {
-        Measured {
-            checksum: self.checksum(),
-            nanoseconds: self.worst,
+            worst: self.worst,
         }
     }
 

@@ -14,18 +14,9 @@ const CHAINS: u64 = 10;
 
 /// Batches of the greatest length.
 pub fn ingest(run: Run, ids: Ids) -> Measured {
-    ingested(run, ids).whole()
-}
-
-/// The same, of which that batch alone is timed that takes longest.
-pub fn ingest_worst(run: Run, ids: Ids) -> Measured {
-    ingested(run, ids).worst()
-}
-
-fn ingested(run: Run, ids: Ids) -> Batches {
     let mut batches = Batches::over_accounts();
     batches.run_all(&mut Transfers::new(run.seed, ids), run);
-    batches
+    batches.measured()
 }
 
 /// Small batches.
@@ -35,7 +26,7 @@ pub fn ingest_small(run: Run) -> Measured {
     for len in batch_lengths(run.count, SMALL) {
         batches.run(&transfers.batch(len));
     }
-    batches.whole()
+    batches.measured()
 }
 
 /// Chains in batches of the greatest length. A tenth of the chains fails.
@@ -46,7 +37,7 @@ pub fn ingest_chains(run: Run) -> Measured {
         let events: Vec<Transfer> = (0..chains).flat_map(|_| chain(&mut transfers)).collect();
         batches.run(&events);
     }
-    batches.whole()
+    batches.measured()
 }
 
 /// A chain, which fails now and then by an account that isn't stored.

@@ -1,7 +1,7 @@
 //! The ledger written by hand in plain Rust, and its workloads.
 //!
-//! `cargo run --release --bin ledger` times them. `cargo test` shows that the ledger answers as the proved one does: it
-//! prints what the repository's worked scripts print, and gives every result where the proved ledger gave it.
+//! `bench/run ledger` times them beside those over the forest. `cargo test` shows that the ledger answers as the proved
+//! one does: it prints what the repository's worked scripts print, and gives every result where the proved ledger gave it.
 //! `cargo test --release -- --include-ignored` also builds the proved program and compares both on random scripts.
 
 pub mod batches;
@@ -22,17 +22,22 @@ pub struct Run {
 }
 
 /// What a workload gave, and how long it took.
+#[derive(Default)]
 pub struct Measured {
     pub checksum: u64,
     pub nanoseconds: u128,
+    /// How long that round or batch took that took longest, or all of it, where there are none.
+    pub worst: u128,
 }
 
 /// Times the work, which gives a checksum.
 pub fn measure(work: impl FnOnce() -> u64) -> Measured {
     let start = Instant::now();
     let checksum = work();
+    let nanoseconds = start.elapsed().as_nanos();
     Measured {
         checksum,
-        nanoseconds: start.elapsed().as_nanos(),
+        nanoseconds,
+        worst: nanoseconds,
     }
 }

@@ -12,7 +12,7 @@ const NANOSECONDS: u64 = 1_000_000_000;
 
 /// Stores pending transfers, each with a timeout.
 pub fn store(run: Run) -> Measured {
-    with_pending(run).whole()
+    with_pending(run).measured()
 }
 
 /// Posts pending transfers whole, in the order in which they were stored.
@@ -31,7 +31,7 @@ pub fn expire(run: Run) -> Measured {
     batches.restart();
     let now = batches.ledger.clock() + (TIMEOUT + 1) * NANOSECONDS;
     while batches.pulse(now) > 0 {}
-    batches.whole()
+    batches.measured()
 }
 
 /// A ledger with as many pending transfers as the run says, whose ids are 1 and up.
@@ -67,5 +67,5 @@ fn settled(run: Run, flags: u16, amount: u128) -> Measured {
         let events: Vec<Transfer> = events.collect();
         batches.run(&events);
     }
-    batches.whole()
+    batches.measured()
 }

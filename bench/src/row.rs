@@ -89,7 +89,7 @@ pub fn install(run: Run) -> Measured {
     });
     Measured {
         checksum: rows.iter().fold(0, |sum, row| mixed(sum, row.len as u64)),
-        nanoseconds: measured.nanoseconds,
+        ..measured
     }
 }
 

@@ -113,7 +113,7 @@ pub fn push_log<V: Payload>(run: Run) -> Measured {
     });
     Measured {
         checksum: checksum(&sealed_log(&mut log)),
-        nanoseconds: measured.nanoseconds,
+        ..measured
     }
 }
 
@@ -121,10 +121,7 @@ pub fn seal_log<V: Payload>(run: Run) -> Measured {
     let values = random_values(run);
     let mut log = Vec::new();
     let mut table = Table::with_room(0);
-    let mut whole = Measured {
-        checksum: 0,
-        nanoseconds: 0,
-    };
+    let mut whole = Measured::default();
     for _ in 0..run.count {
         fill::<V>(&mut log, &values);
         let measured = measure(|| {
@@ -132,6 +129,7 @@ pub fn seal_log<V: Payload>(run: Run) -> Measured {
             0
         });
         whole.nanoseconds += measured.nanoseconds;
+        whole.worst = whole.worst.max(measured.worst);
         whole.checksum = mixed(whole.checksum, checksum(&table));
     }
     whole
@@ -275,7 +273,7 @@ fn sum_of<'a, V: Payload + 'a>(
 fn with_rows<V: Payload>(measured: Measured, table: &Table<V>) -> Measured {
     Measured {
         checksum: mixed(measured.checksum, checksum(table)),
-        nanoseconds: measured.nanoseconds,
+        ..measured
     }
 }
 

@@ -141,7 +141,7 @@ fn get_all<V: Payload>(map: &BTreeMap<Key, V>, keys: &[Key]) -> Measured {
 fn with_rows<V: Payload>(measured: Measured, map: &BTreeMap<Key, V>) -> Measured {
     Measured {
         checksum: mixed(measured.checksum, checksum(map)),
-        nanoseconds: measured.nanoseconds,
+        ..measured
     }
 }
 

@@ -1,0 +1,74 @@
+"""What both parts of the benchmark share: programs that are built, run and measured, and the file with the results."""
+import os
+import platform
+import subprocess
+import sys
+from pathlib import Path
+
+TOP = Path(__file__).resolve().parent.parent
+RESULTS = TOP / "bench/RESULTS.md"
+SEED = 1
+
+
+def say(line):
+    print(line, file=sys.stderr, flush=True)
+
+
+def build(crate):
+    """Proves and builds a program of this repository, and gives its path."""
+    say(f"proving and building crates/{crate}")
+    run = subprocess.run(["rt", "run"], cwd=TOP / "crates" / crate, stdin=subprocess.DEVNULL, capture_output=True, text=True)
+    program = TOP / "crates" / crate / "out" / crate
+    if run.returncode != 0 or not program.exists():
+        sys.exit(run.stdout + run.stderr + f"bench/run: crates/{crate} could not be built; the lines above say why")
+    return program
+
+
+def build_plain(name):
+    """Builds a program of bench/, and gives its path."""
+    say("building bench")
+    subprocess.run(["cargo", "build", "--release", "--quiet"], cwd=TOP / "bench", check=True)
+    return TOP / "bench/target/release" / name
+
+
+def measure(program, *words):
+    """The numbers that one run prints, and the greatest memory that its process held, in bytes."""
+    words = [str(word) for word in (program, *words)]
+    reading, writing = os.pipe()
+    child = os.posix_spawn(words[0], words, os.environ, file_actions=[(os.POSIX_SPAWN_DUP2, writing, 1)])
+    os.close(writing)
+    with os.fdopen(reading) as out:
+        text = out.read()
+    _, status, usage = os.wait4(child, 0)
+    if status != 0 or not text.split() or not all(word.isdigit() for word in text.split()):
+        sys.exit(f"bench/run: {' '.join(words)}: status {status}, output {text!r}")
+    return [int(word) for word in text.split()], usage.ru_maxrss * 1024
+
+
+def processor():
+    """The name of the processor."""
+    try:
+        lines = Path("/proc/cpuinfo").read_text().splitlines()
+    except OSError:
+        return platform.processor()
+    names = [line.split(":", 1)[1].strip() for line in lines if line.startswith("model name")]
+    return names[0] if names else platform.processor()
+
+
+def made_by(options=""):
+    """Where, when by what version and how a section's numbers were measured."""
+    rustc = subprocess.run(["rustc", "--version"], capture_output=True, text=True).stdout.strip()
+    kit = subprocess.run(["rt", "version"], capture_output=True, text=True).stdout.strip()
+    return f"Made by `bench/run{options}` on {os.cpu_count()} cores ({processor()}), with {rustc} and {kit}."
+
+
+def write_section(heading, text):
+    """Puts a section into the file with the results, in the place of the one that was there."""
+    title = "# Results of the last run\n"
+    sections = {}
+    if RESULTS.exists():
+        for section in RESULTS.read_text().split("\n## ")[1:]:
+            name, _, body = section.partition("\n")
+            sections[name] = body.strip("\n")
+    sections[heading] = text.strip("\n")
+    RESULTS.write_text(title + "".join(f"\n## {name}\n\n{body}\n" for name, body in sections.items()))

@@ -1,0 +1,71 @@
+//! How long things took, in nanoseconds.
+
+use std::io;
+use std::time::{Clock, Instant};
+
+/// The time of one batch, by its parts.
+#[derive(Clone, Copy)]
+pub(crate) struct Spent {
+    pub(crate) events: u128,
+    pub(crate) publishes: u128,
+    pub(crate) merges: u128,
+}
+
+impl Spent {
+    /// No time at all.
+    pub(crate) const NONE: Spent = Spent {
+        events: 0,
+        publishes: 0,
+        merges: 0,
+    };
+
+    pub(crate) fn whole(&self) -> u128 {
+        let events_and_publishes = self.events.saturating_add(self.publishes);
+        events_and_publishes.saturating_add(self.merges)
+    }
+
+    fn and(&self, other: &Spent) -> Spent {
+        Spent {
+            events: self.events.saturating_add(other.events),
+            publishes: self.publishes.saturating_add(other.publishes),
+            merges: self.merges.saturating_add(other.merges),
+        }
+    }
+}
+
+/// The time of many batches.
+#[derive(Clone, Copy)]
+pub(crate) struct Times {
+    /// That of all.
+    pub(crate) spent: Spent,
+    /// That of the batch that took longest.
+    pub(crate) worst: u128,
+}
+
+impl Times {
+    /// That of no batch.
+    pub(crate) const NONE: Times = Times {
+        spent: Spent::NONE,
+        worst: 0,
+    };
+
+    /// That of one batch more.
+    pub(crate) fn with(&self, batch: &Spent) -> Times {
+        Times {
+            spent: self.spent.and(batch),
+            worst: self.worst.max(batch.whole()),
+        }
+    }
+}
+
+/// What a workload gave, and how long it took.
+#[derive(Clone, Copy)]
+pub(crate) struct Measured {
+    pub(crate) checksum: u64,
+    pub(crate) times: Times,
+}
+
+/// The nanoseconds since a moment.
+pub(crate) fn since<R: Clock>(rt: &R, start: &Instant) -> io::Result<u128> {
+    Ok(start.elapsed(rt)?.as_nanos())
+}
