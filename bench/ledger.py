@@ -43,8 +43,36 @@ RATES |= {name: 0.5 for name, _ in INGEST if name not in RATES}
 RATES |= {name: 0.8 for name, _ in QUERIES if name not in RATES}
 # how much longer a transfer may take at the last count than at the first
 GROWTH = 1.3
-# what would help next where that is missed
-NEXT = {}
+# what would help next where that is missed, by profiles
+CHANGES = (
+    "each of an entry's changes goes through values of 160 bytes, which are set to zero and handed on whatever the row stores: "
+    "a quarter of the time; the indexes, seven of eleven changes, could be written by their keys alone. Another seventh goes "
+    "into the accounts in use, which are searched six times a transfer."
+)
+SETTLED = (
+    "a post looks its pending transfer up by its id in all tables of a row, and the publish that finds a row with 64 tables "
+    "merges it in the writer's thread: such rows could be merged before, by others."
+)
+SEARCHES = (
+    "each table of a row is searched by halving, some six reads from far memory a table, and a row has some 16 tables; the "
+    "place of each value's first row, kept beside the keys of a table, would make that two."
+)
+NEXT = {name: CHANGES for name, _ in INGEST}
+NEXT |= {name: SETTLED for name in ("pending_post", "pending_void")}
+NEXT |= {
+    "ingest_small_published": "each publish of ten transfers pushes a table in each of some 13 rows: small tables could share one memory.",
+    "pending_expire": "an expiry looks its transfer up three times, by the key of expiry, by its timestamp and for its status.",
+}
+NEXT |= {name: SEARCHES for name, _ in QUERIES}
+NEXT |= {
+    "query_user_data_64_with_ledger": "the index of ledgers is sought for each row of the other: a field with few values could be "
+    "tested on the record that is fetched anyway.",
+    "query_ledger_with_code": "both indexes are read whole: a field with few values could be tested on the record that is fetched "
+    "anyway.",
+    "query_balances_200": "each row of history is found by a search of its own in some 16 tables, four fifths of the time: one walk "
+    "over the account's rows in each table would find all.",
+    "look_up_random": "an id is searched by halving in the one table whose filter tells of it, and its record is read from far memory.",
+}
 HEAD = [
     "| workload | transfers | merges | ours, ms | plain Rust, ms | rate | worst batch, ms | plain Rust's, ms | peak MiB | plain Rust's, MiB | events | publishes | merges |",
     "|---|---|---|---|---|---|---|---|---|---|---|---|---|",

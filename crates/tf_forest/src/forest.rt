@@ -14,20 +14,20 @@ ghost use Rattle.tf_journal.specs.Ledger.{CanGrow, IsAddition};
 ghost use Rattle.tf_journal.specs.Lookup.{id_use_of, shown_with_id, transfer_with_id};
 ghost use Rattle.tf_journal.specs.Status.{status_at};
 
-use crate::note::{Note, make_room, note_down, undo_to};
+use crate::note::Notes;
 use std::alloc::Allocator;
 use std::marker::Model;
 use tf_journal::{Entry, IdUse, Mark, Status, ids_are_unique, journals_are_within_limits};
 use tf_manifest::Row;
 use tf_records::{Account, Refusal, TIMESTAMP_MAX, Transfer};
 use tf_rows::{
-    AllRows, Floors, Resident, account, add_entry, entries_leave_sums_in_range, formers_of, id_use,
-    look_up, next_entry_can_be_added, rows_answer_look_ups, rows_spell_the_journal_they_show,
-    shown, status, transfer,
+    AllRows, Floors, Resident, account, entries_leave_sums_in_range, formers_of, id_use, look_up,
+    next_entry_can_be_added, rows_answer_look_ups, rows_spell_the_journal_they_show, shown, status,
+    transfer,
 };
 use tf_table::Key;
 
-/// A ledger over 21 rows, with a note for each entry that isn't kept.
+/// A ledger over 21 rows, with a note for each entry that isn't kept, which takes no memory of its own.
 ///
 /// Its journal is the one that the rows spell. Contracts see the journal, the clock and the kept length. A look-up takes a
 /// few look-ups in rows, whatever the journal's length, and that of an account in use one search of a tree beside them. It
@@ -35,8 +35,7 @@ use tf_table::Key;
 #[derive(Drop)]
 pub struct Forest<S: AllRows + Drop, A: Allocator + Copy> {
     pub(crate) rows: S,
-    /// The oldest first.
-    pub(crate) notes: Vec<Note<A>, A>,
+    pub(crate) notes: Notes<A>,
     pub(crate) clock: u64,
     pub(crate) kept: usize,
     pub(crate) floors: Floors,
@@ -58,7 +57,7 @@ impl<S: AllRows + Drop, A: Allocator + Copy> Model for Forest<S, A> {
 
     ghost view = { λ f. record { journal = journal_in (S.parts f.rows); sealed = S.sealed f.rows; fresh = listed (fresh_in (S.parts f.rows)); needed = tables_needed (fresh_in (S.parts f.rows)) (S.sealed f.rows).tables; waiting = entries_waiting (fresh_in (S.parts f.rows)); clock = f.clock; kept = f.kept } };
 
-    ghost invariant = { λ f. IsForest S.has_row S.fits S.takes_any (S.parts f.rows) f.notes.items f.kept f.clock f.floors f.resident };
+    ghost invariant = { λ f. IsForest S.has_row S.fits S.takes_any (S.parts f.rows) f.notes f.kept f.clock f.floors f.resident };
 }
 
 impl<S: AllRows + Drop, A: Allocator + Copy> Forest<S, A> {
@@ -77,7 +76,7 @@ impl<S: AllRows + Drop, A: Allocator + Copy> Forest<S, A> {
         rows_spell_the_journal_they_show();
         Forest {
             rows,
-            notes: Vec::new(alloc),
+            notes: Notes::new(alloc),
             clock: 0,
             kept: 0,
             floors: Floors::new(),
@@ -222,19 +221,18 @@ impl<S: AllRows + Drop, A: Allocator + Copy> Forest<S, A> {
         ensures sealed { self.new.sealed ≡ self.old.sealed }
         ensures err { OnErr result (self.new ≡ self.old) }
     {
-        make_room(&mut self.notes)?;
         next_entry_can_be_added();
         rows_spell_the_journal_they_show();
         entries_leave_sums_in_range();
         rows_answer_look_ups();
         let found = look_up(&self.rows, &self.resident, entry);
-        let steps = match add_entry(&mut self.rows, self.alloc, &found, entry) {
-            Ok(steps) => steps,
+        let formers = formers_of(&found, entry);
+        match self.notes.add(&mut self.rows, &found, formers, entry) {
+            Ok(()) => {}
             Err(refusal) => return Err(refusal),
-        };
+        }
         self.floors = self.floors.after(entry, &found);
         self.resident.after(entry, &found);
-        note_down(&mut self.notes, Note::new(steps, formers_of(&found, entry)));
         Ok(())
     }
 
@@ -266,12 +264,8 @@ impl<S: AllRows + Drop, A: Allocator + Copy> Forest<S, A> {
         ensures length_kept { self.new.kept ≡ self.old.kept }
         ensures sealed { self.new.sealed ≡ self.old.sealed }
     {
-        undo_to(
-            &mut self.rows,
-            &mut self.resident,
-            &mut self.notes,
-            to.length - self.kept,
-        );
+        let left = to.length - self.kept;
+        self.notes.undo_to(&mut self.rows, &mut self.resident, left);
         self.floors = self.floors.back();
     }
 

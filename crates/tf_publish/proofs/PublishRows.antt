@@ -22,7 +22,7 @@ use Rattle.tf_publish.proofs.Measures.{tables_apart}
 use Rattle.tf_rows.proofs.CanChange.{StandFrom, all_rows_stand}
 use Rattle.tf_rows.proofs.Next.{by_row}
 use Rattle.tf_rows.proofs.Parts.{value-seen}
-use Rattle.tf_rows.proofs.Steps.{place_exact}
+use Rattle.tf_rows.proofs.Stepping.{place_exact}
 
 -- where the rows before a place were published and the others weren't yet
 pub record Going (fresh : Entries) (old now : View) (n : ℕ) : Type 0 where

@@ -78,7 +78,7 @@ impl<'r, F: MutableRows + Drop, A: Allocator, N: Naming> RowSet for Rows<'r, F, 
         Some(place)
     }
 
-    fn put(&mut self, row: Row, key: Key, entry: Option<Value>) -> Result<Before, Refusal> {
+    fn put(&mut self, row: Row, key: Key, entry: &Option<Value>) -> Result<Before, Refusal> {
         self.fresh.put(row, key, entry)
     }
 

@@ -13,7 +13,8 @@ pub mod GoingBack
 pub mod FoundInRows
 pub mod PartiesAfter
 pub mod Parts
-pub mod Steps
+pub mod Stepping
+pub mod Touched
 pub mod Next
 pub mod InRange
 pub mod Listed

@@ -19,7 +19,7 @@ use Rattle.tf_rows.specs.Changes.{all_changed, changed}
 use Rattle.tf_rows.specs.Edits.{Edit, edited}
 use Rattle.tf_rows.specs.Next.{change_of, content_in}
 use Rattle.tf_rows.specs.Parts.{Part, Parts, place_of, value_of_part, with_entry}
-use Rattle.tf_rows.proofs.Steps.{place_exact}
+use Rattle.tf_rows.proofs.Stepping.{place_exact}
 
 value_put : (part : Part) (key : Key) (entry : Option Value) → value_of_part (with_entry key entry part) key ≡ entry
 value_put part key entry = ap (λ (x : Option (Option Value)). option_flatten (first_some x (entry_of key part.below))) (with_row-here key entry part.fresh)

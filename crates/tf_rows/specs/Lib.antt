@@ -6,6 +6,7 @@ pub mod LookUps
 pub mod Held
 pub mod Parts
 pub mod Changes
+pub mod Packed
 pub mod Next
 pub mod Range
 pub mod Nest

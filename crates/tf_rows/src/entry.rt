@@ -54,11 +54,11 @@ pub(crate) fn first_above<V: Held, M: MutableTable<V, A>, A: Allocator + Clone>(
 pub(crate) fn put_entry<V: Held, M: MutableTable<V, A>, A: Allocator + Clone>(
     table: &mut M,
     key: Key,
-    entry: Option<Value>,
+    entry: &Option<Value>,
 ) -> Result<Before, Refusal>
     requires takes { M.takes key (M.rows table.old) }
-    requires fits { IfSome entry (λ value. IsSome (V.held value)) }
-    ensures rows { OnOk result (seen_rows V.seen (M.rows table.new) ≡ with_row key_cmp key entry (seen_rows V.seen (M.rows table.old))) }
+    requires fits { IfSome entry.now (λ value. IsSome (V.held value)) }
+    ensures rows { OnOk result (seen_rows V.seen (M.rows table.new) ≡ with_row key_cmp key entry.now (seen_rows V.seen (M.rows table.old))) }
     ensures there { OnOk result (IsSome (entry_at key (seen_rows V.seen (M.rows table.new)))) }
     ensures held { IfOk result (λ before. IfSome before (λ entry. IfSome entry (λ value. IsSome (V.held value)))) }
     ensures restores { IfOk result (λ before. given_back key before (seen_rows V.seen (M.rows table.new)) ≡ seen_rows V.seen (M.rows table.old)) }
@@ -97,9 +97,9 @@ fn seen_entry<V: Held>(entry: Option<&V>) -> Option<Value>
 }
 
 /// An entry, as the row stores it.
-fn stored_entry<V: Held>(entry: Option<Value>) -> Option<V>
-    requires { IfSome entry (λ value. IsSome (V.held value)) }
-    ensures { option_map V.seen result ≡ entry }
+fn stored_entry<V: Held>(entry: &Option<Value>) -> Option<V>
+    requires { IfSome entry.now (λ value. IsSome (V.held value)) }
+    ensures { option_map V.seen result ≡ entry.now }
 {
     match entry {
         Some(value) => V::from_value(value),
@@ -113,7 +113,7 @@ fn stored_before<V: Held>(before: Before) -> Option<Option<V>>
     ensures { option_map (option_map V.seen) result ≡ before }
 {
     match before {
-        Some(entry) => Some(stored_entry(entry)),
+        Some(entry) => Some(stored_entry(&entry)),
         None => None,
     }
 }

@@ -13,8 +13,8 @@ pub trait Held: RowValue {
     ghost held: { Value → Option Self };
 
     /// What is stored as this value, if it is of this kind.
-    fn from_value(value: Value) -> Option<Self>
-        ensures { result ≡ held value };
+    fn from_value(value: &Value) -> Option<Self>
+        ensures { result ≡ held value.now };
 
     /// What is read is seen as the value.
     ghost seen_so: { (value : Value) → IfSome (held value) (λ stored. Self.seen stored ≡ value) };
@@ -31,9 +31,9 @@ impl Held for u64 {
 
     ghost read_back = { λ stored. refl };
 
-    fn from_value(value: Value) -> Option<Self> {
+    fn from_value(value: &Value) -> Option<Self> {
         match value {
-            Value::Stamp(timestamp) => Some(timestamp),
+            Value::Stamp(timestamp) => Some(*timestamp),
             _ => None,
         }
     }
@@ -47,9 +47,9 @@ impl Held for Stored<Account> {
 
     ghost read_back = { λ stored. refl };
 
-    fn from_value(value: Value) -> Option<Self> {
+    fn from_value(value: &Value) -> Option<Self> {
         match value {
-            Value::Account(record) => Some(Stored { record }),
+            Value::Account(record) => Some(Stored { record: *record }),
             _ => None,
         }
     }
@@ -63,9 +63,9 @@ impl Held for Stored<Transfer> {
 
     ghost read_back = { λ stored. refl };
 
-    fn from_value(value: Value) -> Option<Self> {
+    fn from_value(value: &Value) -> Option<Self> {
         match value {
-            Value::Transfer(record) => Some(Stored { record }),
+            Value::Transfer(record) => Some(Stored { record: *record }),
             _ => None,
         }
     }
@@ -79,10 +79,10 @@ impl Held for IdStamp {
 
     ghost read_back = { id_back };
 
-    fn from_value(value: Value) -> Option<Self> {
+    fn from_value(value: &Value) -> Option<Self> {
         match value {
-            Value::Stamp(timestamp) => Some(IdStamp::Stored(timestamp)),
-            Value::FailedAt(timestamp) => Some(IdStamp::Failed(timestamp)),
+            Value::Stamp(timestamp) => Some(IdStamp::Stored(*timestamp)),
+            Value::FailedAt(timestamp) => Some(IdStamp::Failed(*timestamp)),
             _ => None,
         }
     }
@@ -96,7 +96,7 @@ impl Held for () {
 
     ghost read_back = { λ stored. refl };
 
-    fn from_value(value: Value) -> Option<Self> {
+    fn from_value(value: &Value) -> Option<Self> {
         match value {
             Value::Unit => Some(()),
             _ => None,
@@ -112,9 +112,9 @@ impl Held for State {
 
     ghost read_back = { λ stored. refl };
 
-    fn from_value(value: Value) -> Option<Self> {
+    fn from_value(value: &Value) -> Option<Self> {
         match value {
-            Value::State(state) => Some(state),
+            Value::State(state) => Some(*state),
             _ => None,
         }
     }
@@ -128,9 +128,9 @@ impl Held for Stored<Sums> {
 
     ghost read_back = { λ stored. refl };
 
-    fn from_value(value: Value) -> Option<Self> {
+    fn from_value(value: &Value) -> Option<Self> {
         match value {
-            Value::Sums(record) => Some(Stored { record }),
+            Value::Sums(record) => Some(Stored { record: *record }),
             _ => None,
         }
     }
@@ -144,9 +144,9 @@ impl Held for Stored<Status> {
 
     ghost read_back = { λ stored. refl };
 
-    fn from_value(value: Value) -> Option<Self> {
+    fn from_value(value: &Value) -> Option<Self> {
         match value {
-            Value::Status(record) => Some(Stored { record }),
+            Value::Status(record) => Some(Stored { record: *record }),
             _ => None,
         }
     }

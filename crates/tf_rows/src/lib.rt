@@ -28,6 +28,7 @@ mod row_set;
 mod seal_rows;
 mod sealed_row;
 mod spelled;
+mod steps;
 mod transfers;
 
 pub use add::add_entry;
@@ -54,3 +55,4 @@ pub use row_set::RowSet;
 pub use seal_rows::SealRows;
 pub use sealed_row::SealedRow;
 pub use spelled::rows_spell_the_journal_they_show;
+pub use steps::Steps;

@@ -30,10 +30,10 @@ pub trait MutableRows {
     /// Gives a key of a row an entry, a value or None for a tombstone, and tells the one that it had.
     ///
     /// The only refusal is `NoMemory`, and it changes nothing.
-    fn put(&mut self, row: Row, key: Key, entry: Option<Value>) -> Result<Before, Refusal>
+    fn put(&mut self, row: Row, key: Key, entry: &Option<Value>) -> Result<Before, Refusal>
         requires new { (entry_at key (entries self.old row) ≡ None) ⊎ IsTree row }
-        requires fits { IfSome entry (λ value. IsTrue (fits_row row value)) }
-        ensures put { IfOk result (λ before. PutsEntry row key entry before (entries self.old) (entries self.new)) }
+        requires fits { IfSome entry.now (λ value. IsTrue (fits_row row value)) }
+        ensures put { IfOk result (λ before. PutsEntry row key entry.now before (entries self.old) (entries self.new)) }
         ensures kind { IfOk result (λ before. IfSome before (λ entry. IfSome entry (λ value. IsTrue (fits_row row value)))) }
         ensures err { OnErr result (entries self.new ≡ entries self.old) }
         ensures refusal { IfErr result (λ refusal. refusal ≡ Refusal.NoMemory) };

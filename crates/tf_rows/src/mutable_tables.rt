@@ -77,13 +77,13 @@ fn put_in_one<A: Allocator + Clone>(
     indexes: &mut [Log<(), A>],
     place: usize,
     key: Key,
-    entry: Option<Value>,
+    entry: &Option<Value>,
 ) -> Result<Before, Refusal>
     requires there { place < length indexes.old }
     requires takes { entry_at key (slice_index_or indexes.old place []) ≡ None }
-    requires fits { IfSome entry (λ value. IsSome (unit_held value)) }
+    requires fits { IfSome entry.now (λ value. IsSome (unit_held value)) }
     ensures others { indexes.new ≡ slice_set indexes.old place (slice_index_or indexes.new place []) }
-    ensures rows { OnOk result (seen_rows (λ nothing. Value.Unit) (slice_index_or indexes.new place []) ≡ with_row key_cmp key entry (seen_rows (λ nothing. Value.Unit) (slice_index_or indexes.old place []))) }
+    ensures rows { OnOk result (seen_rows (λ nothing. Value.Unit) (slice_index_or indexes.new place []) ≡ with_row key_cmp key entry.now (seen_rows (λ nothing. Value.Unit) (slice_index_or indexes.old place []))) }
     ensures there { OnOk result (IsSome (entry_at key (seen_rows (λ nothing. Value.Unit) (slice_index_or indexes.new place [])))) }
     ensures held { IfOk result (λ before. IfSome before (λ entry. IfSome entry (λ value. IsSome (unit_held value)))) }
     ensures restores { IfOk result (λ before. given_back key before (seen_rows (λ nothing. Value.Unit) (slice_index_or indexes.new place [])) ≡ seen_rows (λ nothing. Value.Unit) (slice_index_or indexes.old place [])) }
@@ -170,7 +170,7 @@ impl<A: Allocator + Clone> MutableRows for MutableTables<A> {
         }
     }
 
-    fn put(&mut self, row: Row, key: Key, entry: Option<Value>) -> Result<Before, Refusal> {
+    fn put(&mut self, row: Row, key: Key, entry: &Option<Value>) -> Result<Before, Refusal> {
         match row.kind() {
             Kind::Stamp(StampRow::AccountIds) => put_entry(&mut self.account_ids, key, entry),
             Kind::Stamp(StampRow::ExpiryEntries) => put_entry(&mut self.expiry_entries, key, entry),

@@ -48,11 +48,11 @@ pub trait RowSet {
     /// Gives a key of a row an entry, a value or None for a tombstone, and tells the one that its mutable table had.
     ///
     /// The only refusal is `NoMemory`, and it changes nothing.
-    fn put(&mut self, row: Row, key: Key, entry: Option<Value>) -> Result<Before, Refusal>
+    fn put(&mut self, row: Row, key: Key, entry: &Option<Value>) -> Result<Before, Refusal>
         requires has { IsTrue (has_row row) }
         requires new { (entry_at key (parts self.old row).fresh ≡ None) ⊎ takes_any row }
-        requires fits { IfSome entry (λ value. IsTrue (fits row value)) }
-        ensures put { IfOk result (λ before. IsPut row key entry before (parts self.old) (parts self.new)) }
+        requires fits { IfSome entry.now (λ value. IsTrue (fits row value)) }
+        ensures put { IfOk result (λ before. IsPut row key entry.now before (parts self.old) (parts self.new)) }
         ensures kind { IfOk result (λ before. IfSome before (λ entry. IfSome entry (λ value. IsTrue (fits row value)))) }
         ensures sealed { sealed self.new ≡ sealed self.old }
         ensures err { OnErr result (parts self.new ≡ parts self.old) }

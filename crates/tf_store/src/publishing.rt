@@ -10,35 +10,34 @@ use std::alloc::Allocator;
 use std::sync::Wait;
 use tf_forest::Forest;
 use tf_history::{Front, Head};
-use tf_journal::Ledger;
 use tf_manifest::{Manifest, manifest_shows_one_journal};
 use tf_publish::Rows;
 use tf_query::{Version, manifests_spell_their_journal};
 use tf_records::Refusal;
-use tf_rows::SealRows;
+use tf_rows::{AllRows, SealRows};
 
-/// Brings the history up to a ledger's journal, of which so many entries were published.
+/// Brings the history up to a forest's journal, of which so many entries were published.
 ///
 /// The only refusal is `NoMemory`: then the history is as it was.
-fn bring_front<L: Ledger, S: StoreName>(
-    ledger: &L,
+fn bring_front<R: AllRows + Drop, A: Allocator + Copy, S: StoreName>(
+    forest: &Forest<R, A>,
     head: &Head<S>,
     front: &mut Front<S>,
     shown: u64,
 ) -> Result<(), Refusal>
-    requires lawful { IsLawful (L.journal ledger.now) }
-    requires begins { IsPrefix front.old (L.journal ledger.now) }
+    requires lawful { IsLawful forest.now.journal }
+    requires begins { IsPrefix front.old forest.now.journal }
     requires shown { shown ≤ length front.old }
-    ensures all { OnOk result (front.new ≡ L.journal ledger.now) }
-    ensures begins { IsPrefix front.new (L.journal ledger.now) }
+    ensures all { OnOk result (front.new ≡ forest.now.journal) }
+    ensures begins { IsPrefix front.new forest.now.journal }
     ensures further { length front.old ≤ length front.new }
-    ensures idle { shown ≡ length (L.journal ledger.now) → IsOk result }
+    ensures idle { shown ≡ length forest.now.journal → IsOk result }
     ensures refusal { IfErr result (λ refusal. refusal ≡ Refusal.NoMemory) }
 {
-    if shown == ledger.mark().length as u64 {
+    if shown == forest.mark().length as u64 {
         return Ok(());
     }
-    if !front.extend(head, ledger) {
+    if !front.extend(head, forest) {
         return Err(Refusal::NoMemory);
     }
     Ok(())

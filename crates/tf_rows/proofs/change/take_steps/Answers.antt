@@ -1,31 +1,49 @@
-use Rattle.std.proofs.Common.{List, sym, ◌∙◌, ap, subst}
+use Rattle.std.proofs.Common.{◌∷◌, [], List, length, take, drop, sym, ◌∙◌, ap, subst, arith}
+use Rattle.std.proofs.lemmas.List.{length-append, take-append-le}
 use Rattle.tf_rows.specs.declared.change.Step.{Step}
 use Rattle.tf_rows.specs.Changes.{CanStepAll, all_stepped}
 use Rattle.tf_rows.specs.Parts.{Parts}
-use Rattle.tf_rows.proofs.Steps.{all_stepped-last, popped, taken_stepped}
+use Rattle.tf_rows.proofs.Stepping.{all_stepped-last, popped, taken_stepped}
+use Rattle.tf_rows.proofs.Touched.{dropped}
 use Rattle.tf_rows.proofs.change.take_steps.Goals as goal
 
 pub take_back-requires-clause-has : goal.take_back-requires-clause-has
 take_back-requires-clause-has g c =
-    (popped g.S.RowSet.has_row g.S.RowSet.fits g.S.RowSet.takes_any c.loop-step.steps.items c.pop.new.self.items c.in-Some.step (g.S.RowSet.parts c.loop-step.set) c.in-Some.ensures.items c.loop-step.invariant.can).0.held
+    let long = length-append c.pop.new.self (c.in-Some.step ∷ []) in
+    let whole = ap (λ (ss : List Step). length ss) c.in-Some.ensures in
+    (popped g.S.RowSet.has_row g.S.RowSet.fits g.S.RowSet.takes_any (drop c.args.left c.loop-steps.steps) (drop c.args.left c.pop.new.self) c.in-Some.step (g.S.RowSet.parts c.loop-steps.set)
+    (dropped c.loop-steps.steps c.pop.new.self c.in-Some.step c.args.left c.in-Some.ensures (omega (arith, long, whole, c.len.ensures, c.loop-steps-test.true))) c.loop-steps.invariant.can).0.held
 
 pub take_back-requires-clause-there : goal.take_back-requires-clause-there
 take_back-requires-clause-there g c =
-    (popped g.S.RowSet.has_row g.S.RowSet.fits g.S.RowSet.takes_any c.loop-step.steps.items c.pop.new.self.items c.in-Some.step (g.S.RowSet.parts c.loop-step.set) c.in-Some.ensures.items c.loop-step.invariant.can).0.there
+    let long = length-append c.pop.new.self (c.in-Some.step ∷ []) in
+    let whole = ap (λ (ss : List Step). length ss) c.in-Some.ensures in
+    (popped g.S.RowSet.has_row g.S.RowSet.fits g.S.RowSet.takes_any (drop c.args.left c.loop-steps.steps) (drop c.args.left c.pop.new.self) c.in-Some.step (g.S.RowSet.parts c.loop-steps.set)
+    (dropped c.loop-steps.steps c.pop.new.self c.in-Some.step c.args.left c.in-Some.ensures (omega (arith, long, whole, c.len.ensures, c.loop-steps-test.true))) c.loop-steps.invariant.can).0.there
 
 pub take_back-requires-clause-fits : goal.take_back-requires-clause-fits
 take_back-requires-clause-fits g c =
-    (popped g.S.RowSet.has_row g.S.RowSet.fits g.S.RowSet.takes_any c.loop-step.steps.items c.pop.new.self.items c.in-Some.step (g.S.RowSet.parts c.loop-step.set) c.in-Some.ensures.items c.loop-step.invariant.can).0.kind
+    let long = length-append c.pop.new.self (c.in-Some.step ∷ []) in
+    let whole = ap (λ (ss : List Step). length ss) c.in-Some.ensures in
+    (popped g.S.RowSet.has_row g.S.RowSet.fits g.S.RowSet.takes_any (drop c.args.left c.loop-steps.steps) (drop c.args.left c.pop.new.self) c.in-Some.step (g.S.RowSet.parts c.loop-steps.set)
+    (dropped c.loop-steps.steps c.pop.new.self c.in-Some.step c.args.left c.in-Some.ensures (omega (arith, long, whole, c.len.ensures, c.loop-steps-test.true))) c.loop-steps.invariant.can).0.kind
 
-pub loop-step-preserved : goal.loop-step-preserved
-loop-step-preserved g c =
-    let taken = taken_stepped c.in-Some.step (g.S.RowSet.parts c.loop-step.set) (g.S.RowSet.parts c.take_back.new.self) c.take_back.ensures.back in
-    let left = popped g.S.RowSet.has_row g.S.RowSet.fits g.S.RowSet.takes_any c.loop-step.steps.items c.pop.new.self.items c.in-Some.step (g.S.RowSet.parts c.loop-step.set) c.in-Some.ensures.items c.loop-step.invariant.can in
+pub loop-steps-preserved-in-Some : goal.loop-steps-preserved-in-Some
+loop-steps-preserved-in-Some g c =
+    let long = length-append c.pop.new.self (c.in-Some.step ∷ []) in
+    let whole = ap (λ (ss : List Step). length ss) c.in-Some.ensures in
+    let n = c.args.left in
+    let rest = dropped c.loop-steps.steps c.pop.new.self c.in-Some.step n c.in-Some.ensures (omega (arith, long, whole, c.len.ensures, c.loop-steps-test.true)) in
+    let taken = taken_stepped c.in-Some.step (g.S.RowSet.parts c.loop-steps.set) (g.S.RowSet.parts c.take_back.new.self) c.take_back.ensures.back in
+    let left = popped g.S.RowSet.has_row g.S.RowSet.fits g.S.RowSet.takes_any (drop n c.loop-steps.steps) (drop n c.pop.new.self) c.in-Some.step (g.S.RowSet.parts c.loop-steps.set) rest c.loop-steps.invariant.can in
     record {
-      can = subst (CanStepAll g.S.RowSet.has_row g.S.RowSet.fits g.S.RowSet.takes_any c.pop.new.self.items) (sym {A = Parts} taken) left.1;
-      rows = ap (all_stepped c.pop.new.self.items) taken
-          ∙ sym (all_stepped-last c.pop.new.self.items c.in-Some.step (g.S.RowSet.parts c.loop-step.set))
-          ∙ ap (λ (ss : List Step). all_stepped ss (g.S.RowSet.parts c.loop-step.set)) (sym c.in-Some.ensures.items)
-          ∙ c.loop-step.invariant.rows;
-      sealed = c.take_back.ensures.sealed ∙ c.loop-step.invariant.sealed;
+      many = omega (arith, long, whole, c.len.ensures, c.loop-steps-test.true);
+      can = subst (CanStepAll g.S.RowSet.has_row g.S.RowSet.fits g.S.RowSet.takes_any (drop n c.pop.new.self)) (sym {A = Parts} taken) left.1;
+      left = sym (take-append-le n c.pop.new.self (c.in-Some.step ∷ []) (omega (arith, long, whole, c.len.ensures, c.loop-steps-test.true)))
+          ∙ ap (take n) (sym c.in-Some.ensures) ∙ c.loop-steps.invariant.left;
+      rows = ap (all_stepped (drop n c.pop.new.self)) taken
+          ∙ sym (all_stepped-last (drop n c.pop.new.self) c.in-Some.step (g.S.RowSet.parts c.loop-steps.set))
+          ∙ ap (λ (ss : List Step). all_stepped ss (g.S.RowSet.parts c.loop-steps.set)) (sym rest)
+          ∙ c.loop-steps.invariant.rows;
+      sealed = c.take_back.ensures.sealed ∙ c.loop-steps.invariant.sealed;
     }

@@ -9,13 +9,13 @@ use Rattle.tf_rows.proofs.entry.put_entry.Goals as goal
 
 pub returns-clause-rows : goal.returns-clause-rows
 returns-clause-rows g c =
-    put-seen g.V.RowValue.seen c.args.key c.stored_entry-stored.result c.args.entry (g.M.MutableTable.rows c.args.table.now) (g.M.MutableTable.rows c.put.new.self) c.in_ok-before.ensures.rows c.stored_entry-stored.ensures
+    put-seen g.V.RowValue.seen c.args.key c.stored_entry-stored.result c.args.entry.now (g.M.MutableTable.rows c.args.table.now) (g.M.MutableTable.rows c.put.new.self) c.in_ok-before.ensures.rows c.stored_entry-stored.ensures
 
 pub returns-clause-there : goal.returns-clause-there
 returns-clause-there g c =
     subst (λ (rows : List (Key × Option Value)). IsSome (entry_at c.args.key rows)) (sym (returns-clause-rows g c))
-    (there-put c.args.key c.args.entry (seen_rows g.V.RowValue.seen (g.M.MutableTable.rows c.args.table.now)))
+    (there-put c.args.key c.args.entry.now (seen_rows g.V.RowValue.seen (g.M.MutableTable.rows c.args.table.now)))
 
 pub returns-clause-restores : goal.returns-clause-restores
 returns-clause-restores g c =
-    restored-seen g.V.RowValue.seen c.args.key c.args.entry c.in_ok-before.before c.seen_before.result (g.M.MutableTable.rows c.args.table.now) (g.M.MutableTable.rows c.put.new.self) (returns-clause-rows g c) c.len-rows.ensures.rising c.in_ok-before.ensures.before c.seen_before.ensures.seen
+    restored-seen g.V.RowValue.seen c.args.key c.args.entry.now c.in_ok-before.before c.seen_before.result (g.M.MutableTable.rows c.args.table.now) (g.M.MutableTable.rows c.put.new.self) (returns-clause-rows g c) c.len-rows.ensures.rising c.in_ok-before.ensures.before c.seen_before.ensures.seen

@@ -17,8 +17,8 @@ use Rattle.tf_rows.specs.Next.{changes, changes_by}
 use Rattle.tf_forest.proofs.Notes.{IsGrown, grown_forest, grown_journal}
 use Rattle.tf_forest.proofs.forest.Forest.add.Goals as goal
 
-pub add_entry-requires-clause-can : goal.add_entry-requires-clause-can
-add_entry-requires-clause-can g c =
+pub add-requires-clause-can : goal.add-requires-clause-can
+add-requires-clause-can g c =
     let old : Parts = g.S.RowSet.parts c.self.inside.rows in
     let e : Entry = c.args.entry.now in
     let same : journal_in old ≡ c.args.self.now.journal = ap (λ (v : View). v.journal) c.self.view_is in
@@ -32,46 +32,42 @@ add_entry-requires-clause-can g c =
 pub invariant_of-self-2 : goal.invariant_of-self-2
 invariant_of-self-2 g c =
     let old : Parts = g.S.RowSet.parts c.self.inside.rows in
-    let new : Parts = g.S.RowSet.parts c.add_entry.new.rows in
+    let new : Parts = g.S.RowSet.parts c.add.new.rows in
     let e : Entry = c.args.entry.now in
     let same : journal_in old ≡ c.args.self.now.journal = ap (λ (v : View). v.journal) c.self.view_is in
     let grows : CanGrow (journal_in old) e = subst (λ (j : List Entry). CanGrow j e) (sym same) c.requires in
     let is : c.look_up-found.result ≡ found_for (journal_in old) e = c.look_up-found.ensures.found (journal_in old) c.self.invariant.shows.sound c.self.invariant.shows.shows in
-    let note : Noted = record { steps = c.in-Ok.steps.items; formers = c.formers_of.result } in
+    let note : Noted = record { steps = c.in-Ok.ensures.noted.steps; formers = c.formers_of-formers.result } in
     let grown : IsGrown g.S.RowSet.has_row g.S.RowSet.fits g.S.RowSet.takes_any old new e note = record {
       shows = c.in-Ok.ensures.shows (journal_in old) c.self.invariant.shows.sound grows is c.self.invariant.shows.shows;
       values = subst LogsHaveValues (sym (c.in-Ok.ensures.rows ∙ ap (λ (f : Found). all_changed (changes_by f e) old) is)) (c.next_entry_can_be_added.ensures.values old (journal_in old) e c.self.invariant.shows.values);
-      can = c.in-Ok.ensures.steps;
-      back = c.in-Ok.ensures.back;
-      accounts = c.formers_of.ensures.back (journal_in old) c.self.invariant.shows.sound grows is;
+      can = c.in-Ok.ensures.noted.can;
+      back = c.in-Ok.ensures.noted.back;
+      accounts = c.formers_of-formers.ensures.back (journal_in old) c.self.invariant.shows.sound grows is;
     } in
-    let noted : c.note_down.new.notes.items ≡ c.self.inside.notes.items ++ note ∷ [] =
-    c.note_down.ensures
-    ∙ ap (λ (ns : List Noted). ns ++ c.new.result ∷ []) c.make_room.ensures.items
-    ∙ ap (λ (n : Noted). c.self.inside.notes.items ++ n ∷ []) c.new.ensures in
-    subst (λ (ns : List Noted). IsForest g.S.RowSet.has_row g.S.RowSet.fits g.S.RowSet.takes_any new ns c.self.inside.kept c.self.inside.clock c.after-self-inside.result c.after.new.self) (sym noted)
-    (grown_forest g.S.RowSet.has_row g.S.RowSet.fits g.S.RowSet.takes_any c.rows_spell_the_journal_they_show.ensures old new c.self.inside.notes.items note c.self.inside.kept c.self.inside.clock c.self.inside.floors c.self.inside.resident e c.self.invariant grows grown
+    subst (λ (ns : List Noted). IsForest g.S.RowSet.has_row g.S.RowSet.fits g.S.RowSet.takes_any new ns c.self.inside.kept c.self.inside.clock c.after-self-inside.result c.after.new.self) (sym c.in-Ok.ensures.noted.is)
+    (grown_forest g.S.RowSet.has_row g.S.RowSet.fits g.S.RowSet.takes_any c.rows_spell_the_journal_they_show.ensures old new c.self.inside.notes note c.self.inside.kept c.self.inside.clock c.self.inside.floors c.self.inside.resident e c.self.invariant grows grown
     c.after-self-inside.result c.after.new.self (c.after-self-inside.ensures.holds (journal_in old) c.self.inside.kept c.self.invariant.shows.sound grows is c.self.invariant.floors)
     (c.after.ensures (journal_in old) c.self.invariant.shows.sound grows is c.self.invariant.resident))
 
 pub returns-clause-addition : goal.returns-clause-addition
 returns-clause-addition g c =
     let old : Parts = g.S.RowSet.parts c.self.inside.rows in
-    let new : Parts = g.S.RowSet.parts c.add_entry.new.rows in
+    let new : Parts = g.S.RowSet.parts c.add.new.rows in
     let e : Entry = c.args.entry.now in
     let same : journal_in old ≡ c.args.self.now.journal = ap (λ (v : View). v.journal) c.self.view_is in
     let grows : CanGrow (journal_in old) e = subst (λ (j : List Entry). CanGrow j e) (sym same) c.requires in
     let is : c.look_up-found.result ≡ found_for (journal_in old) e = c.look_up-found.ensures.found (journal_in old) c.self.invariant.shows.sound c.self.invariant.shows.shows in
-    let note : Noted = record { steps = c.in-Ok.steps.items; formers = c.formers_of.result } in
+    let note : Noted = record { steps = c.in-Ok.ensures.noted.steps; formers = c.formers_of-formers.result } in
     let grown : IsGrown g.S.RowSet.has_row g.S.RowSet.fits g.S.RowSet.takes_any old new e note = record {
       shows = c.in-Ok.ensures.shows (journal_in old) c.self.invariant.shows.sound grows is c.self.invariant.shows.shows;
       values = subst LogsHaveValues (sym (c.in-Ok.ensures.rows ∙ ap (λ (f : Found). all_changed (changes_by f e) old) is)) (c.next_entry_can_be_added.ensures.values old (journal_in old) e c.self.invariant.shows.values);
-      can = c.in-Ok.ensures.steps;
-      back = c.in-Ok.ensures.back;
-      accounts = c.formers_of.ensures.back (journal_in old) c.self.invariant.shows.sound grows is;
+      can = c.in-Ok.ensures.noted.can;
+      back = c.in-Ok.ensures.noted.back;
+      accounts = c.formers_of-formers.ensures.back (journal_in old) c.self.invariant.shows.sound grows is;
     } in
     record {
-      ok = grown_journal g.S.RowSet.has_row g.S.RowSet.fits g.S.RowSet.takes_any c.rows_spell_the_journal_they_show.ensures old new c.self.inside.notes.items note c.self.inside.kept c.self.inside.clock c.self.inside.floors c.self.inside.resident e c.self.invariant grows grown
+      ok = grown_journal g.S.RowSet.has_row g.S.RowSet.fits g.S.RowSet.takes_any c.rows_spell_the_journal_they_show.ensures old new c.self.inside.notes note c.self.inside.kept c.self.inside.clock c.self.inside.floors c.self.inside.resident e c.self.invariant grows grown
           ∙ ap (λ (j : List Entry). j ++ e ∷ []) same;
       err = tt;
       refusal = tt;
@@ -79,8 +75,8 @@ returns-clause-addition g c =
       kept = ap (λ (v : View). v.kept) c.self.view_is;
     }
 
-pub add_entry-requires-clause-range : goal.add_entry-requires-clause-range
-add_entry-requires-clause-range g c =
+pub add-requires-clause-range : goal.add-requires-clause-range
+add-requires-clause-range g c =
     let old : Parts = g.S.RowSet.parts c.self.inside.rows in
     let e : Entry = c.args.entry.now in
     let same : journal_in old ≡ c.args.self.now.journal = ap (λ (v : View). v.journal) c.self.view_is in
@@ -91,7 +87,7 @@ add_entry-requires-clause-range g c =
 pub returns-in-Err-clause-addition : goal.returns-in-Err-clause-addition
 returns-in-Err-clause-addition g c = record {
   ok = tt;
-  err = ap journal_in c.in-Err.ensures.err ∙ ap (λ (v : View). v.journal) c.self.view_is;
+  err = ap journal_in c.in-Err.ensures.err.0 ∙ ap (λ (v : View). v.journal) c.self.view_is;
   refusal = c.in-Err.ensures.refusal;
   clock = ap (λ (v : View). v.clock) c.self.view_is;
   kept = ap (λ (v : View). v.kept) c.self.view_is;
@@ -100,7 +96,7 @@ returns-in-Err-clause-addition g c = record {
 pub returns-in-Err-clause-err : goal.returns-in-Err-clause-err
 returns-in-Err-clause-err g c =
     let seen : Parts → Sealed → View = λ rows sealed. record { journal = journal_in rows; sealed = sealed; fresh = listed (fresh_in rows); needed = tables_needed (fresh_in rows) sealed.tables; waiting = entries_waiting (fresh_in rows); clock = c.self.inside.clock; kept = c.self.inside.kept } in
-    ap (λ (rows : Parts). seen rows (g.S.RowSet.sealed c.add_entry.new.rows)) c.in-Err.ensures.err
+    ap (λ (rows : Parts). seen rows (g.S.RowSet.sealed c.add.new.rows)) c.in-Err.ensures.err.0
     ∙ ap (λ (sealed : Sealed). seen (g.S.RowSet.parts c.self.inside.rows) sealed) c.in-Err.ensures.sealed
     ∙ c.self.view_is
 

@@ -16,7 +16,7 @@ use Rattle.tf_forest.proofs.forest.Forest.keep.Goals as goal
 
 pub overflow_add-self : goal.overflow_add-self
 overflow_add-self g c =
-    let bound = noted_length g.S.RowSet.has_row g.S.RowSet.fits g.S.RowSet.takes_any _ c.self.inside.notes.items c.self.inside.kept c.self.inside.clock c.len.result c.self.inside.floors c.self.inside.resident c.self.invariant (search rules) in
+    let bound = noted_length g.S.RowSet.has_row g.S.RowSet.fits g.S.RowSet.takes_any _ c.self.inside.notes c.self.inside.kept c.self.inside.clock c.len.result c.self.inside.floors c.self.inside.resident c.self.invariant (search rules) in
     omega (arith, bound)
 
 pub invariant_of-self : goal.invariant_of-self

@@ -20,8 +20,8 @@ invariant_of-self g c =
     let not_kept = c.requires.not_kept in
     let present = c.requires.present in
     let left = c.undo_to.ensures.left in
-    let less = cut_length old new (length c.self.inside.notes.items - (n - kept)) c.undo_to.ensures.cut in
-    let taken : take n old ≡ new = cut_is_taken old new (length c.self.inside.notes.items - (n - kept)) n c.undo_to.ensures.cut (omega arith) in
+    let less = cut_length old new (length c.self.inside.notes - (n - kept)) c.undo_to.ensures.cut in
+    let taken : take n old ≡ new = cut_is_taken old new (length c.self.inside.notes - (n - kept)) n c.undo_to.ensures.cut (omega arith) in
     record {
       shows = c.undo_to.ensures.shows;
       right = c.undo_to.ensures.right;

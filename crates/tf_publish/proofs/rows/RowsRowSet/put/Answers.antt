@@ -12,7 +12,7 @@ if_ok (Err e) P Q f h = tt
 pub returns-clause-put : goal.returns-clause-put
 returns-clause-put g c =
     if_ok c.put.result _ _
-    (λ before puts. put_in_front c.args.self.now.published.tables c.args.row c.args.key c.args.entry before (g.F.MutableRows.entries c.args.self.now.fresh) (g.F.MutableRows.entries c.put.new.self) puts)
+    (λ before puts. put_in_front c.args.self.now.published.tables c.args.row c.args.key c.args.entry.now before (g.F.MutableRows.entries c.args.self.now.fresh) (g.F.MutableRows.entries c.put.new.self) puts)
     c.put.ensures.put
 
 pub returns-clause-err : goal.returns-clause-err
