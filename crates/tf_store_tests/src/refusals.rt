@@ -152,7 +152,7 @@ fn assert_round_refused<'r, T: SealRows<A> + Drop, A: Allocator + Copy, S: Store
             assert_publish_refused(rt, heap, store, twin, number, least)?;
         } else {
             let refused = run_at_last(rt, heap, store, share, twin, command, least)?;
-            assert!(rt; refused > 2, "command {place} was refused {refused} times");
+            assert!(rt; refused > 0, "command {place} was refused {refused} times");
         }
     }
     Ok(())

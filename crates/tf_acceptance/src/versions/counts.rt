@@ -2,9 +2,8 @@
 ghost use Rattle.tf_acceptance.specs.Rest.{IsAtRest};
 
 use super::merges::merge_all;
-use super::publishing::Sealing;
+use super::publishing::{Sealing, run_on_forest};
 use super::stays::batch;
-use crate::answers::run;
 use crate::dice::Dice;
 use crate::random;
 use std::alloc::{Allocator, Global};
@@ -57,7 +56,7 @@ fn publish_one<'r, F: SealRows<A> + Drop, A: Allocator + Copy, N: Naming>(
     ensures { IsAtRest forest.new.journal forest.new.clock forest.new.kept }
 {
     let transfer = batch(rt.alloc(), dice, id, 1)?;
-    let _reply = run(rt.alloc(), forest, &transfer);
+    let _reply = run_on_forest(rt.alloc(), forest, &transfer);
     forest.publish(rt)?;
     assert_bounds(rt, forest);
     Ok(())
@@ -90,7 +89,7 @@ pub fn assert_bounds_kept<'r, F: SealRows<A> + Drop, A: Allocator + Copy, N: Nam
     requires { IsAtRest forest.old.journal forest.old.clock forest.old.kept }
 {
     let mut dice = Dice::new(17);
-    let _accounts = run(rt.alloc(), forest, &random::first_accounts(rt.alloc())?);
+    let _accounts = run_on_forest(rt.alloc(), forest, &random::first_accounts(rt.alloc())?);
     let mut merges: u32 = 0;
     for id in 1..1001u32 {
         publish_one(rt, forest, &mut dice, id)?;
@@ -110,8 +109,8 @@ pub fn assert_limit_holds<'r, F: SealRows<A> + Drop, A: Allocator + Copy, N: Nam
 ) -> Result<(), Fail>
     requires { IsAtRest forest.old.journal forest.old.clock forest.old.kept }
 {
-    let _accounts = run(rt.alloc(), forest, &random::first_accounts(rt.alloc())?);
-    let _transfer = run(rt.alloc(), forest, &one_transfer(rt.alloc())?);
+    let _accounts = run_on_forest(rt.alloc(), forest, &random::first_accounts(rt.alloc())?);
+    let _transfer = run_on_forest(rt.alloc(), forest, &one_transfer(rt.alloc())?);
     let answer = forest.publish(rt);
     let counts = forest.counts();
     let manifest = forest.rows().published.manifest();

@@ -5,7 +5,7 @@ ghost use Rattle.tf_manifest.specs.View.{ShowsJournal};
 ghost use Rattle.tf_query.specs.Version.{ShowsLawfulJournal};
 
 use super::asking::assert_answer;
-use crate::answers::run;
+use crate::answers::{Answer, run};
 use std::alloc::{Allocator, Global};
 use std::process::Abort;
 use std::sync::Wait;
@@ -15,7 +15,7 @@ use tf_journal::{Ledger, PlainLedger};
 use tf_manifest::{Manifest, Naming};
 use tf_publish::Rows;
 use tf_query::{Version, manifests_spell_their_journal};
-use tf_rows::SealRows;
+use tf_rows::{AllRows, SealRows};
 use tf_script::Command;
 
 /// A forest that can be published.
@@ -59,6 +59,19 @@ pub fn publish_again<'r, F: SealRows<A> + Drop, A: Allocator + Copy, N: Naming>(
     Ok(())
 }
 
+/// Runs a batch or a pulse on a forest, and no other command. It knows its rows by what they can do alone: at sealed tables,
+/// which are many types deep, a call of what is generic in ledgers would compare the whole forest's layout.
+pub fn run_on_forest<R: AllRows + Drop, A: Allocator + Copy, B: Allocator>(
+    alloc: Global,
+    forest: &mut Forest<R, A>,
+    command: &Command<B>,
+) -> Answer<Global>
+    requires { IsAtRest forest.old.journal forest.old.clock forest.old.kept }
+    ensures { IsAtRest forest.new.journal forest.new.clock forest.new.kept }
+{
+    run(alloc, forest, command)
+}
+
 /// Runs commands on a forest and on the plain ledger. After each one the forest is published, and where the command asks
 /// for rows, a version answers as the plain ledger does.
 pub fn run_published<'r, F: SealRows<A> + Drop, A: Allocator + Copy, N: Naming, B: Allocator>(
@@ -74,7 +87,7 @@ pub fn run_published<'r, F: SealRows<A> + Drop, A: Allocator + Copy, N: Naming, 
 {
     for command in commands {
         let expected = run(rt.alloc(), plain, command);
-        let answer = run(rt.alloc(), forest, command);
+        let answer = run_on_forest(rt.alloc(), forest, command);
         assert!(rt; answer.is_same(&expected));
         let version = publish(rt, forest)?;
         let _rows = assert_answer(rt, &version, plain, command);
