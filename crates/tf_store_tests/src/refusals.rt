@@ -152,7 +152,12 @@ fn assert_round_refused<'r, T: SealRows<A> + Drop, A: Allocator + Copy, S: Store
             assert_publish_refused(rt, heap, store, twin, number, least)?;
         } else {
             let refused = run_at_last(rt, heap, store, share, twin, command, least)?;
-            assert!(rt; refused > 0, "command {place} was refused {refused} times");
+            // The room that a pulse asks for stays, so that later ones may need no more.
+            let may_fit = number > 0 && matches!(command, Command::Pulse { .. });
+            assert!(rt;
+                refused > 0 || may_fit,
+                "command {place} was refused {refused} times"
+            );
         }
     }
     Ok(())
