@@ -153,11 +153,11 @@ fn assert_round_refused<'r, T: SealRows<A> + Drop, A: Allocator + Copy, S: Store
         } else {
             let refused = run_at_last(rt, heap, store, share, twin, command, least)?;
             // The room that a pulse asks for stays, so that later ones may need no more.
-            let may_fit = number > 0 && matches!(command, Command::Pulse { .. });
-            assert!(rt;
-                refused > 0 || may_fit,
-                "command {place} was refused {refused} times"
-            );
+            let is_enough = match command {
+                Command::Pulse { .. } => refused > 0 || number > 0,
+                _ => refused > 2,
+            };
+            assert!(rt; is_enough, "command {place} was refused {refused} times");
         }
     }
     Ok(())
