@@ -5,7 +5,7 @@ ghost use Rattle.tf_manifest.specs.Rows.{key_of};
 ghost use Rattle.tf_query.specs.Reads.{account_in, balance_in, shown_by, shown_in, state_in, sums_in, transfer_in};
 
 use std::alloc::Allocator;
-use tf_manifest::{Manifest, Naming, State};
+use tf_manifest::{Manifest, Naming, Near, State};
 use tf_records::{Account, AccountBalance, Refusal, Sums, Transfer};
 use tf_table::Key;
 
@@ -48,15 +48,18 @@ pub fn state_at<'r, A: Allocator, N: Naming>(
     manifest.states.row(0).find(&key_of(0, timestamp))
 }
 
-/// The sums of an account right after the transfer with this timestamp, where their table has them.
+/// The sums of an account right after the transfer with this timestamp, where their table has them. It looks from where the
+/// last ones stand.
 fn sums_at<'r, A: Allocator, N: Naming>(
     manifest: &Manifest<'r, A, N>,
     account_id: u128,
     timestamp: u64,
+    near: &mut Near,
 ) -> Option<&'r Sums>
     ensures { option_copied result ≡ sums_in manifest.now account_id timestamp }
 {
-    let stored = manifest.sums.row(0).find(&key_of(account_id, timestamp))?;
+    let key = key_of(account_id, timestamp);
+    let stored = manifest.sums.row(0).find_near(&key, near)?;
     Some(&stored.record)
 }
 
@@ -92,14 +95,15 @@ pub fn account_at<A: Allocator, N: Naming>(
 }
 
 /// The balances of an account right after the transfer with this timestamp.
-pub fn balance_at<A: Allocator, N: Naming>(
+fn balance_at<A: Allocator, N: Naming>(
     manifest: &Manifest<'_, A, N>,
     account_id: u128,
     timestamp: u64,
+    near: &mut Near,
 ) -> Option<AccountBalance>
     ensures { result ≡ balance_in manifest.now account_id timestamp }
 {
-    let sums = sums_at(manifest, account_id, timestamp)?;
+    let sums = sums_at(manifest, account_id, timestamp, near)?;
     Some(AccountBalance {
         debits_pending: sums.debits_pending,
         debits_posted: sums.debits_posted,
@@ -168,7 +172,8 @@ pub fn accounts_at<A: Allocator, N: Naming, B: Allocator>(
     Ok(rows)
 }
 
-/// The balances of an account right after the transfers with these timestamps, made as `transfers_at` makes its rows.
+/// The balances of an account right after the transfers with these timestamps, made as `transfers_at` makes its rows. Where
+/// the timestamps rise or fall, each is found in few looks from the one before it.
 pub fn balances_at<A: Allocator, N: Naming, B: Allocator>(
     alloc: B,
     manifest: &Manifest<'_, A, N>,
@@ -180,8 +185,10 @@ pub fn balances_at<A: Allocator, N: Naming, B: Allocator>(
     ensures refusal { IfErr result (λ refusal. refusal ≡ Refusal.NoMemory) }
 {
     let mut rows = Vec::with_capacity(alloc, timestamps.len())?;
+    let mut near = Near::new();
     for timestamp in timestamps {
-        push_found(&mut rows, balance_at(manifest, account_id, *timestamp));
+        let found = balance_at(manifest, account_id, *timestamp, &mut near);
+        push_found(&mut rows, found);
     }
     Ok(rows)
 }

@@ -97,8 +97,8 @@ impl<'r, A: Allocator, N: Naming> Version<'r, A, N> {
     /// The balances of an account right after each transfer that `get_account_transfers` gives, each with that transfer's
     /// timestamp: of a stored account with the flag `HISTORY` alone, else nothing.
     ///
-    /// Refused as there, and read in the same way, with a look-up in a row for each transfer. Restates the reference page
-    /// get_account_balances.
+    /// Refused as there, and read in the same way; the balances of each transfer are looked up from where those of the last one
+    /// stand. Restates the reference page get_account_balances.
     pub fn get_account_balances<B: Allocator + Copy>(
         &self,
         alloc: B,

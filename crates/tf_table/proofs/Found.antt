@@ -1,10 +1,12 @@
 -- What a search in the keys of a table says of its rows.
-use Rattle.std.proofs.Common.{◌≡◌, ℕ, ◌+◌, ◌-◌, ◌<◌, ◌≤◌, List, [], ◌∷◌, length, take, get_or, Option, Some, None, true, false, refl, arith, ap, sym, ◌∙◌, subst}
-use Rattle.std.specs.List.{zip}
+use Rattle.std.proofs.Common.{◌≡◌, ℕ, ◌+◌, ◌-◌, ◌<◌, ◌≤◌, List, [], ◌∷◌, length, take, get_or, Option, Some, None, true, false, not, ◌||◌, map, refl, arith, ap, sym, ◌∙◌, subst}
+use Rattle.std.specs.List.{All, zip}
+use Rattle.std.proofs.Math.Dec.{ltb}
 use Rattle.std.specs.Ordering.{is_lt, is_eq}
 use Rattle.tf_btree.specs.Rows.{value_at}
+use Rattle.std.proofs.lemmas.Bool.{false≢true, le-ltb}
 use Rattle.std.proofs.lemmas.List.{get_or_default}
-use Rattle.std.proofs.lemmas.List.Elements.{All-head, All-tail}
+use Rattle.std.proofs.lemmas.List.Elements.{All-cons, All-head, All-nil, All-tail}
 use Rattle.tf_table.specs.declared.key.Key.{Key}
 use Rattle.tf_table.specs.declared.entries.Entries.{Entries}
 use Rattle.tf_table.specs.declared.span.Span.{Span}
@@ -12,23 +14,52 @@ use Rattle.tf_table.specs.Entries.{entries_of}
 use Rattle.tf_table.specs.Filter.{Holds, HoldsEach}
 use Rattle.tf_table.specs.Key.{key_cmp}
 use Rattle.tf_table.specs.Rows.{rows_of, IsLaidOut}
+use Rattle.tf_table.specs.Span.{HasSpan}
 use Rattle.tf_table.specs.Content.{entry_at}
-use Rattle.tf_table.proofs.Keys.{keys_total, exact_keys}
+use Rattle.tf_table.proofs.Dense.{HaveNoValue, LiesBetween, lies_between, none_where_last, rising_pair, time_there}
+use Rattle.tf_table.proofs.Keys.{keys_total, exact_keys, key_itself, same_key}
 use Rattle.tf_table.proofs.LaidOut.{length-rows_of, row_there, key_there}
 use Rattle.tf_table.proofs.Rising.{AllBefore, is_eq-not, value_at-there}
 use Rattle.tf_table.proofs.Places.{before_all, value_at-place, value_at-missing, value_at-end, value_at-under, value_at-over}
 
--- no row has a value that the filter doesn't hold
-entry_at-zip : {E : Type 0} (words : List ℕ) (key : Key) (ks : List Key) (es : List E) → HoldsEach words ks → (Holds words key.value → ⊥) → value_at key_cmp key (zip ks es) ≡ None
-entry_at-zip words key [] es h n = refl
-entry_at-zip words key (k ∷ ks) [] h n = refl
-entry_at-zip words key (k ∷ ks) (e ∷ es) h n =
+-- no row has a key that isn't as all keys are
+entry_at-zip : {E : Type 0} (P : Key → Type 0) (key : Key) (ks : List Key) (es : List E) → All P ks → (P key → ⊥) → value_at key_cmp key (zip ks es) ≡ None
+entry_at-zip P key [] es h n = refl
+entry_at-zip P key (k ∷ ks) [] h n = refl
+entry_at-zip P key (k ∷ ks) (e ∷ es) h n =
     value_at-there key_cmp keys_total key (k, e) (zip ks es)
-    (is_eq-not (key_cmp k key) (λ same. n (subst (λ (x : Key). Holds words x.value) (exact_keys k key same) (All-head (λ (x : Key). Holds words x.value) k ks h))))
-    ∙ entry_at-zip words key ks es (All-tail (λ (x : Key). Holds words x.value) k ks h) n
+    (is_eq-not (key_cmp k key) (λ same. n (subst P (exact_keys k key same) (All-head P k ks h))))
+    ∙ entry_at-zip P key ks es (All-tail P k ks h) n
 
+-- nor a value that the filter doesn't hold
 pub entry_at-unheld : {V A : Type 0} (words : List ℕ) (key : Key) (ks : List Key) (es : Entries V A) → HoldsEach words ks → (Holds words key.value → ⊥) → entry_at key (rows_of ks es) ≡ None
-entry_at-unheld words key ks es h n = entry_at-zip words key ks (entries_of (length ks) es) h n
+entry_at-unheld words key ks es h n = entry_at-zip (λ (x : Key). Holds words x.value) key ks (entries_of (length ks) es) h n
+
+-- the timestamps of keys lie within the span
+abbrev IsWithin : Span → ℕ → Type 0
+IsWithin span time = (span.earliest ≤ time) × (time ≤ span.latest)
+
+keys_within : (span : Span) (ks : List Key) → All (IsWithin span) (map (λ (k : Key). k.timestamp) ks) → All (λ (k : Key). IsWithin span k.timestamp) ks
+keys_within span [] h = All-nil (λ (k : Key). IsWithin span k.timestamp)
+keys_within span (k ∷ ks) h =
+    All-cons (λ (x : Key). IsWithin span x.timestamp) k ks
+    (All-head (IsWithin span) k.timestamp (map (λ (x : Key). x.timestamp) ks) h)
+    (keys_within span ks (All-tail (IsWithin span) k.timestamp (map (λ (x : Key). x.timestamp) ks) h))
+
+is_within : (span : Span) (time : ℕ) → IsWithin span time → not (ltb time span.earliest || ltb span.latest time) ≡ true
+is_within span time h =
+    ap (λ early. not (early || ltb span.latest time)) (le-ltb time span.earliest h.0)
+    ∙ ap (λ late. not (false || late)) (le-ltb span.latest time h.1)
+
+-- nor a timestamp that comes before the span or after it
+pub entry_at-outside : {V A : Type 0} (span : Span) (key : Key) (ks : List Key) (es : Entries V A) → HasSpan (Some span) (map (λ (k : Key). k.timestamp) ks) → not (ltb key.timestamp span.earliest || ltb span.latest key.timestamp) ≡ false → entry_at key (rows_of ks es) ≡ None
+entry_at-outside span key ks es h n =
+    entry_at-zip (λ (x : Key). IsWithin span x.timestamp) key ks (entries_of (length ks) es) (keys_within span ks h.within)
+    (λ within. false≢true (sym n ∙ is_within span key.timestamp within))
+
+pub entry_at-no_span : {V A : Type 0} (key : Key) (ks : List Key) (es : Entries V A) → HasSpan None (map (λ (k : Key). k.timestamp) ks) → entry_at key (rows_of ks es) ≡ None
+entry_at-no_span key [] es h = refl
+entry_at-no_span key (k ∷ ks) es h = absurd (let n = ap length h in omega arith)
 
 module _ {V A : Type 0} {span : Option Span} (least greatest : Key) (ks : List Key) (es : Entries V A) (laid : IsLaidOut least greatest span ks es) where
   pub length-laid : length (rows_of ks es) ≡ length ks
@@ -70,3 +101,51 @@ module _ {V A : Type 0} {span : Option Span} (least greatest : Key) (ks : List K
       let n : length (rows_of ks es) - 1 ≡ length ks - 1 = ap (λ m. m - 1) length-laid in
       let last : greatest ≡ (get_or (rows_of ks es) (length ks - 1) d').0 = laid.last some ∙ sym (key_there ks es (length ks - 1) d' laid.paired (omega arith)) in
       subst (λ x. is_lt (key_cmp x key) ≡ true) (last ∙ ap (λ (r : Key × Option V). r.0) (get_or_default (rows_of ks es) (length ks - 1) d' d (omega (arith, length-laid))) ∙ ap (λ m. (get_or (rows_of ks es) m d).0) (sym n)) e)
+
+  first_row : 0 < length ks → (d : Key × Option V) → (get_or (rows_of ks es) 0 d).0 ≡ least
+  first_row some d = key_there ks es 0 d laid.paired some ∙ get_or_default ks 0 d.0 least some ∙ sym (laid.first some)
+
+  last_row : 0 < length ks → (d : Key × Option V) → (get_or (rows_of ks es) (length (rows_of ks es) - 1) d).0 ≡ greatest
+  last_row some d =
+      ap (λ n. (get_or (rows_of ks es) (n - 1) d).0) length-laid
+      ∙ key_there ks es (length ks - 1) d laid.paired (omega arith)
+      ∙ get_or_default ks (length ks - 1) d.0 greatest (omega arith)
+      ∙ sym (laid.last some)
+
+  -- where no row has a value, and there are as many as timestamps from the first to the last
+  module _ (some : 0 < length ks) (none : greatest.value ≡ 0) (many : length ks - 1 ≡ greatest.timestamp - least.timestamp) (key : Key) (from : is_lt (key_cmp key least) ≡ false) (upto : is_lt (key_cmp greatest key) ≡ false) where
+    no_values : HaveNoValue (rows_of ks es)
+    no_values = none_where_last (rows_of ks es) laid.rising (λ d. ap (λ (k : Key). k.value) (last_row some d) ∙ none)
+
+    between : LiesBetween least greatest key
+    between =
+        let d : Key × Option V = (least, None) in
+        let first : least.value ≡ 0 = ap (λ (k : Key). k.value) (sym (first_row some d)) ∙ no_values 0 d (omega (arith, length-laid)) in
+        lies_between least greatest key first none from upto
+
+    pub dense_within : key.timestamp - least.timestamp < length ks
+    dense_within = let f = between.from in let u = between.upto in omega arith
+
+    dense_row : (d : Key × Option V) → (get_or (rows_of ks es) (key.timestamp - least.timestamp) d).0 ≡ key
+    dense_row d =
+        let within : key.timestamp - least.timestamp < length (rows_of ks es) = omega (arith, length-laid, dense_within) in
+        let f = between.from in
+        let u = between.upto in
+        let last : greatest.timestamp ≡ least.timestamp + (length (rows_of ks es) - 1) = omega (arith, length-laid) in
+        let time = time_there (rows_of ks es) least.timestamp greatest.timestamp laid.rising no_values
+        (λ e l. ap (λ (k : Key). k.timestamp) (first_row some e)) (λ e l. ap (λ (k : Key). k.timestamp) (last_row some e)) last (key.timestamp - least.timestamp) d within in
+        same_key _ key (no_values (key.timestamp - least.timestamp) d within ∙ sym between.value) (omega arith)
+
+    pub dense_found : (e : Option V) → get_or (entries_of (length ks) es) (key.timestamp - least.timestamp) e ≡ e → entry_at key (rows_of ks es) ≡ Some e
+    dense_found e entry =
+        entry_at-found key (key.timestamp - least.timestamp) key e
+        (laid_before key (key.timestamp - least.timestamp) (omega (arith, dense_within)) (λ q d at.
+        let d' : Key × Option V = (d, None) in
+        let less = rising_pair (rows_of ks es) q (key.timestamp - least.timestamp) d' laid.rising (omega arith) (omega (arith, length-laid, dense_within)) in
+        ap (λ k. is_lt (key_cmp k key)) (sym (key_there ks es q d' laid.paired (omega (arith, dense_within))))
+        ∙ ap (λ k. is_lt (key_cmp (get_or (rows_of ks es) q d').0 k)) (sym (dense_row d'))
+        ∙ ap is_lt less))
+        dense_within
+        (sym (dense_row (key, e)) ∙ key_there ks es (key.timestamp - least.timestamp) (key, e) laid.paired dense_within)
+        (ap is_eq (key_itself key))
+        entry

@@ -1,11 +1,11 @@
 -- The order of keys is total, and keys that compare alike are one.
-use Rattle.std.proofs.Common.{◌≡◌, ℕ, List, [], ◌∷◌, Bool, true, false, not, cond, eqb, refl, ap, ◌∙◌, arith}
+use Rattle.std.proofs.Common.{◌≡◌, ℕ, List, [], ◌∷◌, Bool, true, false, not, cond, eqb, refl, ap, sym, ◌∙◌, arith}
 use Rattle.std.specs.Ordering.{nat_cmp, ordering_then, is_lt}
 use Rattle.std.specs.declared.cmp.Ordering.{Ordering}
 use Rattle.std.specs.declared.cmp.Ordering.TheVariants.{Less, Equal, Greater}
 use Rattle.std.proofs.lemmas.Bool.{le-ltb, cond-true}
 use Rattle.tf_btree.specs.Rows.{rows_from}
-use Rattle.std.specs.Cmp.{IsTotalOrder}
+use Rattle.std.specs.Cmp.{IsTotalOrder, nat_cmp_is}
 use Rattle.std.proofs.lemmas.Cmp.{then_total, on_total, nat_cmp_total}
 use Rattle.std.proofs.lemmas.Map.Lookups.{CmpEqualImpliesEq, exact_pairs, exact_unsigned}
 use Rattle.tf_table.specs.declared.key.Key.{Key}
@@ -16,6 +16,17 @@ keys_total = then_total (on_total (λ (k : Key). k.value) nat_cmp_total) (on_tot
 
 pub exact_keys : CmpEqualImpliesEq key_cmp
 exact_keys a b h = ap (λ (p : ℕ × ℕ). record { value = p.0; timestamp = p.1 }) (exact_pairs nat_cmp nat_cmp exact_unsigned exact_unsigned (a.value, a.timestamp) (b.value, b.timestamp) h)
+
+-- keys with the same value and the same timestamp are one
+pub same_key : (a b : Key) → a.value ≡ b.value → a.timestamp ≡ b.timestamp → a ≡ b
+same_key a b e f =
+    ap (λ (v : ℕ). let k : Key = record { value = v; timestamp = a.timestamp } in k) e
+    ∙ ap (λ (t : ℕ). let k : Key = record { value = b.value; timestamp = t } in k) f
+
+pub key_itself : (k : Key) → key_cmp k k ≡ Equal
+key_itself k =
+    ap (λ o. ordering_then o (nat_cmp k.timestamp k.timestamp)) (sym (nat_cmp_is k.value k.value Equal refl))
+    ∙ sym (nat_cmp_is k.timestamp k.timestamp Equal refl)
 
 -- no key is below the least one
 is_lt-zero : (x : ℕ) → is_lt (nat_cmp x 0) ≡ false

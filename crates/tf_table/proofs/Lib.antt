@@ -1,5 +1,6 @@
 pub mod Columns
 pub mod Combine
+pub mod Dense
 pub mod Determined
 pub mod Filters
 pub mod First

@@ -10,7 +10,7 @@ use Rattle.tf_btree.specs.Rows.{AllAfter, IsRising, rows_from, rows_upto, value_
 use Rattle.tf_table.proofs.Rising.{AllBefore, IsRising-drop, is_gt-not, is_lt-not, less_from, greater_from, greater_back, less_back, rows_from-at, rows_from-below, value_at-here, value_at-there, value_at-after, value_at-before, is_eq-not}
 
 module _ {K E : Type 0} (cmp : K → K → Ordering) (o : IsTotalOrder cmp) where
-  AllAfter-get_or : (k : K) (rows : List (K × E)) (q : ℕ) (d : K × E) → AllAfter cmp k rows → q < length rows → cmp k (get_or rows q d).0 ≡ Less
+  pub AllAfter-get_or : (k : K) (rows : List (K × E)) (q : ℕ) (d : K × E) → AllAfter cmp k rows → q < length rows → cmp k (get_or rows q d).0 ≡ Less
   AllAfter-get_or k [] q d a l = absurd (omega arith)
   AllAfter-get_or k (r ∷ rows) zero d a l = a.0
   AllAfter-get_or k (r ∷ rows) (suc q) d a l = AllAfter-get_or k rows q d a.1 (omega arith)

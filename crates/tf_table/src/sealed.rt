@@ -10,7 +10,7 @@ ghost use Rattle.tf_table.specs.Span.{HasSpan, timestamps};
 
 use crate::entries::Entries;
 use crate::filter::Filter;
-use crate::search::{Start, count_below_between, count_upto};
+use crate::search::{Start, are_dense, count_below, count_upto};
 use crate::{Key, Span};
 use std::alloc::Allocator;
 use std::marker::Model;
@@ -93,33 +93,87 @@ impl<V, A: Allocator> Sealed<V, A> {
 
     /// The entry of a key, if the table has the key: its value, or None inside for a tombstone.
     ///
-    /// It takes two comparisons for a key that no row can have, by the least and the greatest key of the table, and
-    /// else a number that grows with the logarithm of the rows. Of rows without a value, one before which no timestamp is
-    /// missing takes five. Where there is a filter, it tells most keys between the two that the table doesn't have by one
-    /// word. No entry is read until the key is found.
+    /// It takes four comparisons for a key that no row can have, by the least and the greatest key of the table and by the
+    /// span of its timestamps, and else a number that grows with the logarithm of the rows. Of rows without a value, one
+    /// before which no timestamp is missing takes five, and where none is missing at all no key is read. Where there is a
+    /// filter, it tells most keys between the two that the table doesn't have by one word. No entry is read until the key is
+    /// found.
     pub fn find(&self, key: &Key) -> Option<Option<&V>>
         ensures { option_map option_copied result ≡ entry_at key.now self.now }
     {
-        if key.cmp(&self.least).is_lt() || self.greatest.cmp(key).is_lt() {
+        if key.is_below(&self.least) || self.greatest.is_below(key) {
             return None;
+        }
+        if are_dense(self.keys.len(), &self.least, &self.greatest) {
+            let place = key.timestamp.saturating_sub(self.least.timestamp) as usize;
+            return Some(self.entries.at(place));
         }
         if !self.may_have(key) {
             return None;
         }
-        let place = count_below_between(&self.keys, key, &self.least, &self.greatest);
-        if place < self.keys.len() && self.keys[place].cmp(key).is_eq() {
-            return Some(self.entries.at(place));
-        }
-        None
+        let (_, entry) = self.entry_by(key, self.first_look(key));
+        entry
     }
 
-    /// Whether the table may have the key, by one word of its filter: false says that it hasn't. Where there is no filter it
-    /// is true.
+    /// The same as `find`, where the search begins at a place, which is then that of the key, or where it would be.
+    ///
+    /// Of keys that are looked up in their order, or in the opposite one, each takes a number of comparisons that grows with
+    /// the logarithm of the rows passed over.
+    pub fn find_near(&self, key: &Key, place: &mut usize) -> Option<Option<&V>>
+        ensures { option_map option_copied result ≡ entry_at key.now self.now }
+    {
+        if !self.may_have(key) {
+            return None;
+        }
+        let (at, entry) = self.entry_by(key, Start::Near(*place));
+        *place = at;
+        entry
+    }
+
+    /// Where a search for a key begins. Of rows without a value that is where the key stands if no timestamp is missing before
+    /// it.
+    #[inline]
+    fn first_look(&self, key: &Key) -> Start {
+        if self.greatest.value == 0 {
+            Start::Near(key.timestamp.saturating_sub(self.least.timestamp) as usize)
+        } else {
+            Start::Middle
+        }
+    }
+
+    /// The place of a key, or where it would be, and its entry.
+    fn entry_by(&self, key: &Key, start: Start) -> (usize, Option<Option<&V>>)
+        ensures { option_map option_copied result.1 ≡ entry_at key.now self.now }
+    {
+        let place = count_below(&self.keys, key, start);
+        if place < self.keys.len() && self.keys[place].cmp(key).is_eq() {
+            return (place, Some(self.entries.at(place)));
+        }
+        (place, None)
+    }
+
+    /// Whether the table may have the key, by the span of its timestamps, and by one word of its filter where there is one:
+    /// false says that it hasn't.
     #[inline]
     pub fn may_have(&self, key: &Key) -> bool
         ensures { result ≡ false → entry_at key.now self.now ≡ None }
     {
-        self.filter.may_hold(key.value)
+        self.may_span(key) && self.filter.may_hold(key.value)
+    }
+
+    /// Whether the key's timestamp lies within the span.
+    #[inline]
+    fn may_span(&self, key: &Key) -> bool
+        ensures { result ≡ false → entry_at key.now self.now ≡ None }
+    {
+        match &self.span {
+            Some(span) => {
+                let is_early = key.timestamp < span.earliest;
+                let is_late = span.latest < key.timestamp;
+                !(is_early | is_late)
+            }
+            None => false,
+        }
     }
 
     /// The first key above `key` that has an entry, a value or a tombstone, if there is one.

@@ -14,6 +14,8 @@ pub(crate) enum Start {
     Front,
     /// At the last key, and then ever further. The number of looks grows with the logarithm of the keys passed over.
     Back,
+    /// At a place, and then ever further from it. The number of looks grows with the logarithm of the keys passed over.
+    Near(usize),
 }
 
 /// Where to look next, between two places of a run of `len` keys.
@@ -28,6 +30,9 @@ fn next_look(low: usize, high: usize, len: usize, start: Start) -> usize
         Start::Middle => low + half,
         Start::Front => low + half.min(low),
         Start::Back => high - 1 - half.min(len - high),
+        Start::Near(place) if place < low => low + half.min(low - place),
+        Start::Near(place) if place >= high => high - 1 - half.min(place - high),
+        Start::Near(place) => place,
     }
 }
 
@@ -58,35 +63,13 @@ pub(crate) fn part(keys: &[Key], from: usize, to: usize) -> &[Key]
     &keys[from..to]
 }
 
-/// `count_below` in a run from `least` to `greatest`.
-///
-/// Where no key has a value it looks first where the key stands if no timestamp is missing before it, and then finds it
-/// at once.
-pub(crate) fn count_below_between(keys: &[Key], key: &Key, least: &Key, greatest: &Key) -> usize
-    ensures within { result ≤ length keys.now }
-    ensures before { (place : ℕ) (d : Key) → place + 1 ≡ result → is_lt (key_cmp (slice_index_or keys.now place d) key.now) ≡ true }
-    ensures after { (d : Key) → result < length keys.now → is_lt (key_cmp (slice_index_or keys.now result d) key.now) ≡ false }
-{
-    if greatest.value == 0 {
-        let place = key.timestamp.saturating_sub(least.timestamp) as usize;
-        if is_first(keys, place, key) {
-            return place;
-        }
-    }
-    count_below(keys, key, Start::Middle)
-}
-
-/// Whether there is a key at the place that isn't below `key`, and right before it none or one that is.
+/// Whether so many keys from `least` to `greatest` have no value, and no timestamp is missing between them.
 #[inline]
-fn is_first(keys: &[Key], place: usize, key: &Key) -> bool
-    ensures within { IsTrue result → place < length keys.now }
-    ensures before { (earlier : ℕ) (d : Key) → IsTrue result → earlier + 1 ≡ place → is_lt (key_cmp (slice_index_or keys.now earlier d) key.now) ≡ true }
-    ensures after { (d : Key) → IsTrue result → is_lt (key_cmp (slice_index_or keys.now place d) key.now) ≡ false }
+pub(crate) fn are_dense(len: usize, least: &Key, greatest: &Key) -> bool
+    ensures { IsTrue result → (0 < len) × (greatest.now.value ≡ 0) × (len - 1 ≡ greatest.now.timestamp - least.now.timestamp) }
 {
-    if place >= keys.len() || keys[place].is_below(key) {
-        return false;
-    }
-    place == 0 || keys[place - 1].is_below(key)
+    let between = greatest.timestamp.saturating_sub(least.timestamp) as usize;
+    len > 0 && greatest.value == 0 && len - 1 == between
 }
 
 /// How many keys are not above `key`: a place with no greater key right before it and a greater one at it.
