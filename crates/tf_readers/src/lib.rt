@@ -5,14 +5,16 @@
 //! other, whatever the schedule.
 #![tactic(auto)]
 
+mod asked;
 mod copies;
 mod pages;
 mod publishable;
 mod published;
 mod reader;
 
+pub use asked::{Asked, Found};
 pub use copies::{Copies, open, show};
-pub use pages::{Page, empty_manifests_show_nothing, page_of};
-pub use publishable::Publishable;
+pub use pages::{VersionOf, empty_manifests_show_nothing, page_of, version_of};
+pub use publishable::{Publishable, Shows};
 pub use published::Published;
 pub use reader::Reader;

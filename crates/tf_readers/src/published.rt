@@ -2,7 +2,7 @@
 ghost use Rattle.std.specs.Prelude.{◌≡◌};
 ghost use Rattle.tf_journal.specs.Lawful.{IsLawful};
 
-use crate::publishable::{Publishable, copy_of};
+use crate::publishable::Publishable;
 use left_right::Absorb;
 use std::alloc::AllocError;
 use std::marker::Model;
@@ -12,19 +12,20 @@ use tf_journal::Entry;
 /// A version, and the history as far as it goes: both are one journal, which is lawful. Contracts see it as that journal.
 #[derive(Drop)]
 pub struct Published<V: Publishable, S: HistoryName> {
-    version: V,
+    /// It is always there: copies are written over it.
+    version: Option<V>,
     front: Front<S>,
 }
 
 impl<V: Publishable, S: HistoryName> Model for Published<V, S> {
-    ghost use Rattle.std.specs.Prelude.{◌≡◌, List};
+    ghost use Rattle.std.specs.Prelude.{◌≡◌, List, IfSome, IsSome};
     ghost use Rattle.tf_journal.specs.declared.entry.Entry.{Entry};
 
     ghost Value = { List Entry };
 
     ghost view = { λ p. p.front };
 
-    ghost invariant = { λ p. V.journal p.version ≡ p.front };
+    ghost invariant = { λ p. IsSome p.version × IfSome p.version (λ version. V.journal version ≡ p.front) };
 }
 
 impl<V: Publishable, S: HistoryName> Published<V, S> {
@@ -34,7 +35,7 @@ impl<V: Publishable, S: HistoryName> Published<V, S> {
         ensures { result ≡ front.now }
     {
         Published {
-            version,
+            version: Some(version),
             front: front.again(),
         }
     }
@@ -43,7 +44,10 @@ impl<V: Publishable, S: HistoryName> Published<V, S> {
     pub fn version(&self) -> &V
         ensures { V.journal result.now ≡ self.now }
     {
-        &self.version
+        match &self.version {
+            Some(version) => version,
+            None => unreachable!(),
+        }
     }
 
     /// The history as far as it goes.
@@ -57,8 +61,10 @@ impl<V: Publishable, S: HistoryName> Published<V, S> {
     pub fn again(&self) -> Published<V, S>
         ensures { result ≡ self.now }
     {
+        let mut version = None;
+        self.version().copy_to(&mut version);
         Published {
-            version: copy_of(&self.version),
+            version,
             front: self.front.again(),
         }
     }
@@ -67,7 +73,7 @@ impl<V: Publishable, S: HistoryName> Published<V, S> {
     pub fn copy_from(&mut self, other: &Published<V, S>)
         ensures { self.new ≡ other.now }
     {
-        self.version.copy_from(&other.version);
+        other.version().copy_to(&mut self.version);
         self.front = other.front.again();
     }
 

@@ -15,6 +15,7 @@ use Rattle.tf_manifest.specs.View.{ShowsJournal, no_tables, View as Tables}
 use Rattle.tf_rows.specs.Counts.{Sealed, nothing_sealed}
 use Rattle.tf_forest.specs.Forest as forest
 use Rattle.tf_store.specs.Book.{book_of}
+use Rattle.tf_store.specs.Public.{IsPublic, PublicView, all_public, nothing_public}
 use Rattle.tf_store.specs.Receipt.{Batch, IsReceipt, IsRun, ReceiptView, Waiting, Waits, count_of, receipt_of, step_of}
 use Rattle.tf_store.specs.Store.{IsStore}
 use Rattle.tf_store.proofs.Counting.{begins_more, map-append}
@@ -158,74 +159,89 @@ module _ {L : Type 0} (journal_of : L → List Entry) (clock_of kept_of : L → 
   receipts_stay (Err fault) begins before after is waits =
       ap (map (receipt_of (journal_of new))) is ∙ same_receipts (journal_of old) (journal_of new) before begins waits
 
+-- what was published, when the journal went on
+same_shown : (old new : forest.View) (public : PublicView) → IsPublic old public → IsPrefix old.journal new.journal → take public.shown new.journal ≡ take public.shown old.journal
+same_shown old new public is begins = same_beginning old.journal new.journal public.shown begins (omega (arith, is.shown, no_longer public.front old.journal is.begins))
+
+pub public_grows : (old new : forest.View) (public : PublicView) → IsPublic old public → new.sealed ≡ old.sealed → IsPrefix old.journal new.journal → IsPublic new public
+public_grows old new public is sealed begins =
+    let same = same_shown old new public is begins in
+    record {
+      begins = begins_more public.front old.journal new.journal is.begins begins;
+      shown = is.shown;
+      sound = subst IsLawful (sym same) is.sound;
+      published = subst (λ (s : Sealed). ShowsJournal s.tables (take public.shown new.journal)) (sym sealed) (subst (ShowsJournal old.sealed.tables) (sym same) is.published);
+      readable = is.readable ∙ sym same;
+    }
+
+-- when all of the journal is
+pub all_is_public : (forest : forest.View) (public : PublicView) → public ≡ all_public forest.journal → IsLawful forest.journal → ShowsJournal forest.sealed.tables forest.journal → IsPublic forest public
+all_is_public forest public is lawful shows =
+    let taken : take (length forest.journal) forest.journal ≡ forest.journal = take-length forest.journal in
+    subst (IsPublic forest) (sym is) (record {
+      begins = ([], append-nil forest.journal);
+      shown = omega arith;
+      sound = subst IsLawful (sym taken) lawful;
+      published = subst (ShowsJournal forest.sealed.tables) (sym taken) shows;
+      readable = sym taken;
+    })
+
+-- and when the tables changed, but not their content, and the history may have gone further
+pub public_stays : (old new : forest.View) (public after : PublicView) → IsPublic old public → new.journal ≡ old.journal
+    → (ShowsJournal old.sealed.tables (take public.shown old.journal) → ShowsJournal new.sealed.tables (take public.shown old.journal))
+    → IsPrefix after.front old.journal → length public.front ≤ length after.front → after.shown ≡ public.shown → after.readable ≡ public.readable
+    → IsPublic new after
+public_stays old new public after is journal content begins further shown readable =
+    let same : take after.shown new.journal ≡ take public.shown old.journal = ap (λ n. take n new.journal) shown ∙ ap (take public.shown) journal in
+    record {
+      begins = subst (IsPrefix after.front) (sym journal) begins;
+      shown = omega (arith, is.shown, further, shown);
+      sound = subst IsLawful (sym same) is.sound;
+      published = subst (ShowsJournal new.sealed.tables) (sym same) (content is.published);
+      readable = readable ∙ is.readable ∙ sym same;
+    }
+
 -- the store's promise when its journal went on
-pub store_grows : (old new : forest.View) (counted : ℕ) (tally : ℕ) (front : List Entry) (shown : ℕ) (waiting waits : List Waiting)
-    → IsStore old counted front shown waiting → IsLawfulAt new.clock new.journal → new.kept ≡ length new.journal → new.sealed ≡ old.sealed
+pub store_grows : (old new : forest.View) (counted : ℕ) (tally : ℕ) (public : PublicView) (waiting waits : List Waiting)
+    → IsStore old counted public waiting → IsLawfulAt new.clock new.journal → new.kept ≡ length new.journal → new.sealed ≡ old.sealed
     → IsPrefix old.journal new.journal → tally ≡ book_of new.journal → All (Waits new.journal) waits
-    → IsStore new tally front shown waits
-store_grows old new counted tally front shown waiting waits store lawful kept sealed begins counts all =
-    let front_begins = begins_more front old.journal new.journal store.begins begins in
-    let within : shown ≤ length old.journal = omega (arith, store.shown, no_longer front old.journal store.begins) in
-    let same : take shown new.journal ≡ take shown old.journal = same_beginning old.journal new.journal shown begins within in
-    record {
-      lawful = lawful;
-      kept = kept;
-      counted = counts;
-      begins = front_begins;
-      shown = store.shown;
-      sound = subst IsLawful (sym same) store.sound;
-      published = subst (λ (s : Sealed). ShowsJournal s.tables (take shown new.journal)) (sym sealed) (subst (ShowsJournal old.sealed.tables) (sym same) store.published);
-      waits = all;
-    }
+    → IsStore new tally public waits
+store_grows old new counted tally public waiting waits store lawful kept sealed begins counts all = record {
+  lawful = lawful;
+  kept = kept;
+  counted = counts;
+  public = public_grows old new public store.public sealed begins;
+  waits = all;
+}
 
--- and when its tables show all of it
-pub store_shows : (old new : forest.View) (counted : ℕ) (front : List Entry) (shown : ℕ) (waiting : List Waiting)
-    → IsStore old counted front shown waiting → new.journal ≡ old.journal → new.clock ≡ old.clock → new.kept ≡ old.kept
-    → ShowsJournal new.sealed.tables new.journal → (after : List Entry) → after ≡ new.journal → (all : ℕ) → all ≡ length after
-    → IsStore new counted after all waiting
-store_shows old new counted front shown waiting store journal clock kept shows after is all length_is =
-    let taken : take all new.journal ≡ new.journal = ap (λ n. take n new.journal) (length_is ∙ ap length is) ∙ take-length new.journal in
-    let lawful : IsLawfulAt new.clock new.journal =
-    subst (λ c. IsLawfulAt c new.journal) (sym clock) (subst (IsLawfulAt old.clock) (sym journal) store.lawful) in
-    record {
-      lawful = lawful;
-      kept = kept ∙ store.kept ∙ ap length (sym journal);
-      counted = store.counted ∙ ap book_of (sym journal);
-      begins = subst (λ l. IsPrefix l new.journal) (sym is) ([], append-nil new.journal);
-      shown = omega (arith, length_is);
-      sound = subst IsLawful (sym taken) lawful.lawful;
-      published = subst (ShowsJournal new.sealed.tables) (sym taken) shows;
-      waits = subst (λ l. All (Waits l) waiting) (sym journal) store.waits;
-    }
-
--- and when its tables changed, but not their content, and the history may have gone further
-pub store_stays : (old new : forest.View) (counted : ℕ) (front : List Entry) (shown : ℕ) (waiting : List Waiting)
-    → IsStore old counted front shown waiting → new.journal ≡ old.journal → new.clock ≡ old.clock → new.kept ≡ old.kept
-    → (ShowsJournal old.sealed.tables (take shown old.journal) → ShowsJournal new.sealed.tables (take shown old.journal))
-    → (after : List Entry) → IsPrefix after old.journal → length front ≤ length after
-    → IsStore new counted after shown waiting
-store_stays old new counted front shown waiting store journal clock kept content after begins further = record {
+-- and when its tables changed, and its journal didn't
+pub store_stays : (old new : forest.View) (counted : ℕ) (public after : PublicView) (waiting : List Waiting)
+    → IsStore old counted public waiting → new.journal ≡ old.journal → new.clock ≡ old.clock → new.kept ≡ old.kept
+    → IsPublic new after → IsStore new counted after waiting
+store_stays old new counted public after waiting store journal clock kept is = record {
   lawful = subst (λ c. IsLawfulAt c new.journal) (sym clock) (subst (IsLawfulAt old.clock) (sym journal) store.lawful);
   kept = kept ∙ store.kept ∙ ap length (sym journal);
   counted = store.counted ∙ ap book_of (sym journal);
-  begins = subst (IsPrefix after) (sym journal) begins;
-  shown = omega (arith, store.shown, further);
-  sound = subst (λ l. IsLawful (take shown l)) (sym journal) store.sound;
-  published = subst (λ l. ShowsJournal new.sealed.tables (take shown l)) (sym journal) (content store.published);
+  public = is;
   waits = subst (λ l. All (Waits l) waiting) (sym journal) store.waits;
 }
 
+-- and when they show all of it
+pub store_shows : (old new : forest.View) (counted : ℕ) (public after : PublicView) (waiting : List Waiting)
+    → IsStore old counted public waiting → new.journal ≡ old.journal → new.clock ≡ old.clock → new.kept ≡ old.kept
+    → ShowsJournal new.sealed.tables new.journal → after ≡ all_public new.journal → IsStore new counted after waiting
+store_shows old new counted public after waiting store journal clock kept shows all =
+    store_stays old new counted public after waiting store journal clock kept
+    (all_is_public new after all (subst IsLawful (sym journal) store.lawful.lawful) shows)
+
 -- and when no receipt waits any more
-pub store_emptied : (forest : forest.View) (counted : ℕ) (front : List Entry) (shown : ℕ) (waiting : List Waiting)
-    → IsStore forest counted front shown waiting → IsStore forest counted front shown []
-store_emptied forest counted front shown waiting store = record {
+pub store_emptied : (forest : forest.View) (counted : ℕ) (public : PublicView) (waiting : List Waiting)
+    → IsStore forest counted public waiting → IsStore forest counted public []
+store_emptied forest counted public waiting store = record {
   lawful = store.lawful;
   kept = store.kept;
   counted = store.counted;
-  begins = store.begins;
-  shown = store.shown;
-  sound = store.sound;
-  published = store.published;
+  public = store.public;
   waits = All-nil (Waits forest.journal);
 }
 
@@ -236,16 +252,14 @@ empty_lawful = record {
 }
 
 -- and of a store in which nothing is stored
-pub store_new : (forest : forest.View) (counted : ℕ) (front : List Entry) (waiting : List Waiting) (limit : ℕ)
+pub store_new : (forest : forest.View) (counted : ℕ) (public : PublicView) (waiting : List Waiting) (limit : ℕ)
     → forest.journal ≡ [] → forest.kept ≡ 0 → forest.sealed ≡ nothing_sealed limit → ShowsJournal (no_tables limit) []
-    → counted ≡ 0 → front ≡ [] → waiting ≡ [] → IsStore forest counted front 0 waiting
-store_new forest counted front waiting limit journal kept sealed nothing count none empty = record {
+    → counted ≡ 0 → public ≡ nothing_public → waiting ≡ [] → IsStore forest counted public waiting
+store_new forest counted public waiting limit journal kept sealed nothing count none empty = record {
   lawful = subst (IsLawfulAt forest.clock) (sym journal) (record { lawful = empty_lawful; up_to = All-nil (λ e. timestamp_of e ≤ forest.clock) });
   kept = kept ∙ ap length (sym journal);
   counted = count ∙ ap book_of (sym journal);
-  begins = (forest.journal, ap (λ l. l ++ forest.journal) none);
-  shown = omega arith;
-  sound = subst (λ l. IsLawful (take 0 l)) (sym journal) empty_lawful;
-  published = subst (λ (s : Sealed). ShowsJournal s.tables (take 0 forest.journal)) (sym sealed) (subst (λ l. ShowsJournal (no_tables limit) (take 0 l)) (sym journal) nothing);
+  public = all_is_public forest public (none ∙ ap all_public (sym journal)) (subst IsLawful (sym journal) empty_lawful)
+      (subst (λ (s : Sealed). ShowsJournal s.tables forest.journal) (sym sealed) (subst (ShowsJournal (no_tables limit)) (sym journal) nothing));
   waits = All-same (Waits forest.journal) waiting [] empty (All-nil (Waits forest.journal));
 }

@@ -1,4 +1,5 @@
 -- A forest that was prepared, shown and settled is published; and one that was prepared alone is as it was.
+use mathlib.Core.List.{IsPrefix}
 use Rattle.std.proofs.Common.{◌≡◌, ◌≢◌, ◌∙◌, ◌+◌, ◌<◌, ◌≤◌, ℕ, cond, List, Option, Result, Ok, Err, IfErr, refl, length, sym, ap, subst, arith, rules}
 use Rattle.std.specs.Prelude.{◌==◌, if◌then◌else◌, take}
 use Rattle.std.proofs.lemmas.List.{length-take-le}
@@ -19,7 +20,11 @@ use Rattle.tf_publish.specs.Tables.{Publishes, Waits, by_name, nothing_fresh}
 use Rattle.tf_publish.proofs.Tables.{nothing_waits_fresh, nothing_waits_needed}
 use Rattle.tf_forest.specs.Forest.{View}
 use Rattle.tf_forest.specs.Unpublished.{IsUnpublished}
+use Rattle.tf_store.specs.Public.{PublicView}
 use Rattle.tf_store.specs.Publish.{IsPublish}
+use Rattle.tf_store.specs.Receipt.{Waiting}
+use Rattle.tf_store.specs.Store.{IsStore}
+use Rattle.tf_store.proofs.Kept.{public_stays, store_stays}
 
 ok_not_full : {X : Type 0} (x : X) → Ok x ≡ Err RegistryFull → ⊥
 ok_not_full x is = cc
@@ -169,3 +174,12 @@ published_as old new x y is = record {
 -- want of memory is no full registry
 pub memory_not_full : {X : Type 0} (refusal : Refusal) → refusal ≡ NoMemory → err_of X refusal ≡ Err RegistryFull → ⊥
 memory_not_full refusal is bad = cc
+
+-- a store whose publish was refused keeps its promise
+pub store_refused : {X : Type 0} (old new : View) (counted : ℕ) (public after : PublicView) (waiting : List Waiting) → IsStore old counted public waiting
+    → (refusal : Refusal) → IsPublish {X = X} old new (Err refusal) → IsPrefix after.front new.journal → length public.front ≤ length after.front
+    → (after.shown ≡ public.shown) × (after.readable ≡ public.readable) → IsStore new counted after waiting
+store_refused old new counted public after waiting store refusal publish begins further same =
+    store_stays old new counted public after waiting store publish.journal publish.clock publish.kept
+    (public_stays old new public after store.public publish.journal (unpublished_shows old new publish.err (take public.shown old.journal))
+    (subst (IsPrefix after.front) publish.journal begins) further same.0 same.1)

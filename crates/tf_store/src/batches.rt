@@ -8,7 +8,7 @@ ghost use Rattle.tf_store.specs.Events.{batch_of};
 ghost use Rattle.tf_store.specs.Receipt.{IsRun, accounts, transfers};
 
 use crate::run::{run_batch, run_pulse};
-use crate::{Events, Share, Store, StoreName};
+use crate::{Events, Share, Store, StoreName, StoredCopies};
 use std::alloc::Allocator;
 use tf_events::clock_after;
 use tf_forest::Forest;
@@ -43,7 +43,12 @@ fn keep_transfers<A: Allocator>(
     Ok(Events::Transfers(events.to_vec(alloc)?))
 }
 
-impl<R: AllRows + Drop, A: Allocator + Copy, S: StoreName> Store<Forest<R, A>, A, S> {
+impl<R: AllRows + Drop, C: StoredCopies + Drop, A: Allocator + Copy, S: StoreName> Store<
+    Forest<R, A>,
+    C,
+    A,
+    S,
+> {
     /// Stores a batch of accounts, as `run_accounts` does, and lets its receipt wait for the next publish. The share grows
     /// by the number of accounts stored.
     ///
@@ -58,6 +63,7 @@ impl<R: AllRows + Drop, A: Allocator + Copy, S: StoreName> Store<Forest<R, A>, A
     ) -> Result<Reply<A>, Refusal>
         ensures run { IsBatchRun kind.accounts (λ f. f.journal) (λ f. f.clock) (λ f. f.kept) self.old.forest self.new.forest events.now now result }
         ensures sealed { self.new.forest.sealed ≡ self.old.forest.sealed }
+        ensures readable { self.new.readable ≡ self.old.readable }
         ensures share { share.new + book_of self.old.forest.journal ≡ share.old + book_of self.new.forest.journal }
         ensures receipt { IfOk result (λ reply. self.new.waiting ≡ self.old.waiting ++ record { events = accounts events.now; moment = now; clock = self.old.forest.clock; reply = reply; first = self.old.forest.journal; second = self.new.forest.journal } ∷ []) }
         ensures refused { OnErr result ((self.new.waiting ≡ self.old.waiting) × (share.new ≡ share.old)) }
@@ -78,6 +84,7 @@ impl<R: AllRows + Drop, A: Allocator + Copy, S: StoreName> Store<Forest<R, A>, A
     ) -> Result<Reply<A>, Refusal>
         ensures run { IsBatchRun kind.transfers (λ f. f.journal) (λ f. f.clock) (λ f. f.kept) self.old.forest self.new.forest events.now now result }
         ensures sealed { self.new.forest.sealed ≡ self.old.forest.sealed }
+        ensures readable { self.new.readable ≡ self.old.readable }
         ensures share { share.new + book_of self.old.forest.journal ≡ share.old + book_of self.new.forest.journal }
         ensures receipt { IfOk result (λ reply. self.new.waiting ≡ self.old.waiting ++ record { events = transfers events.now; moment = now; clock = self.old.forest.clock; reply = reply; first = self.old.forest.journal; second = self.new.forest.journal } ∷ []) }
         ensures refused { OnErr result ((self.new.waiting ≡ self.old.waiting) × (share.new ≡ share.old)) }
@@ -86,8 +93,9 @@ impl<R: AllRows + Drop, A: Allocator + Copy, S: StoreName> Store<Forest<R, A>, A
         self.create(kept, now, share)
     }
 
-    /// Stores a batch of either kind.
-    fn create(
+    /// Stores a batch of either kind whose events were copied already, so that no copy is made under the lock. It does what
+    /// `create_accounts` and `create_transfers` do, and is refused as they are.
+    pub fn create(
         &mut self,
         events: Events<A>,
         now: u64,
@@ -95,6 +103,7 @@ impl<R: AllRows + Drop, A: Allocator + Copy, S: StoreName> Store<Forest<R, A>, A
     ) -> Result<Reply<A>, Refusal>
         ensures run { IsRun (λ f. f.journal) (λ f. f.clock) (λ f. f.kept) self.old.forest self.new.forest (batch_of events) now result }
         ensures sealed { self.new.forest.sealed ≡ self.old.forest.sealed }
+        ensures readable { self.new.readable ≡ self.old.readable }
         ensures share { share.new + book_of self.old.forest.journal ≡ share.old + book_of self.new.forest.journal }
         ensures receipt { IfOk result (λ reply. self.new.waiting ≡ self.old.waiting ++ record { events = batch_of events; moment = now; clock = self.old.forest.clock; reply = reply; first = self.old.forest.journal; second = self.new.forest.journal } ∷ []) }
         ensures refused { OnErr result ((self.new.waiting ≡ self.old.waiting) × (share.new ≡ share.old)) }
@@ -119,6 +128,7 @@ impl<R: AllRows + Drop, A: Allocator + Copy, S: StoreName> Store<Forest<R, A>, A
     pub fn pulse(&mut self, now: u64, max: u32, share: &mut Share<S>) -> Result<u32, Refusal>
         ensures run { IsPulseRun (λ f. f.journal) (λ f. f.clock) (λ f. f.kept) self.old.forest self.new.forest now max result }
         ensures sealed { self.new.forest.sealed ≡ self.old.forest.sealed }
+        ensures readable { self.new.readable ≡ self.old.readable }
         ensures share { IfOk result (λ count. share.new ≡ share.old + count) }
         ensures waiting { self.new.waiting ≡ self.old.waiting }
         ensures refused { OnErr result (share.new ≡ share.old) }

@@ -7,7 +7,7 @@ ghost use Rattle.tf_manifest.specs.Run.{count_at};
 ghost use Rattle.tf_manifest.specs.View.{references_in, tables_by};
 ghost use Rattle.tf_manifest.specs.declared.row.Row.{Row};
 
-use crate::{Store, StoreName};
+use crate::{Store, StoreName, StoredCopies};
 use std::alloc::Allocator;
 use std::sync::Wait;
 use tf_forest::Forest;
@@ -15,8 +15,9 @@ use tf_manifest::{Job, Merged, Row, Uninstalled};
 use tf_publish::Rows;
 use tf_rows::MutableRows;
 
-impl<'r, T: MutableRows + Drop, A: Allocator + Copy, S: StoreName> Store<
+impl<'r, T: MutableRows + Drop, C: StoredCopies + Drop, A: Allocator + Copy, S: StoreName> Store<
     Forest<Rows<'r, T, A, S>, A>,
+    C,
     A,
     S,
 > {
@@ -43,6 +44,7 @@ impl<'r, T: MutableRows + Drop, A: Allocator + Copy, S: StoreName> Store<
         ensures journal { self.new.forest.journal ≡ self.old.forest.journal }
         ensures clock_kept { self.new.forest.clock ≡ self.old.forest.clock }
         ensures waiting { self.new.waiting ≡ self.old.waiting }
+        ensures readable { self.new.readable ≡ self.old.readable }
         ensures installs { OnOk result (InstallsIn self.old.forest.sealed.tables merged.entry self.new.forest.sealed.tables) }
         ensures counts { OnOk result (self.new.forest.sealed.counts ≡ record self.old.forest.sealed.counts { rows_held = self.old.forest.sealed.counts.rows_held + length (output_of merged.entry).table.rows }) }
         ensures room { OnOk result (self.old.forest.sealed.tables.pushed.count < self.old.forest.sealed.tables.pushed.limit) }

@@ -2,10 +2,15 @@
 ghost use Rattle.std.specs.Prelude.{◌≡◌, ◌<◌, sum, vec_len};
 ghost use Rattle.tf_store.specs.Book.{book_of};
 
-use crate::{Share, Store, StoreName, StoredForest};
+use crate::{Share, Store, StoreName, StoredCopies, StoredForest};
 use std::alloc::Allocator;
 
-impl<F: StoredForest + Drop, A: Allocator + Copy, S: StoreName> Store<F, A, S> {
+impl<F: StoredForest + Drop, C: StoredCopies + Drop, A: Allocator + Copy, S: StoreName> Store<
+    F,
+    C,
+    A,
+    S,
+> {
     /// The sum of all shares that the store gave when it was made, which is its book. It uses the shares up, and changes
     /// nothing else. It takes no memory.
     pub fn gather<B: Allocator>(&mut self, shares: Vec<Share<S>, B>) -> u64

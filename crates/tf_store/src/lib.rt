@@ -3,10 +3,12 @@
 
 mod batches;
 mod compaction;
+mod copies;
 mod events;
 mod gathering;
 mod names;
 mod opening;
+mod public;
 mod publishing;
 mod queue;
 mod receipt;
@@ -15,8 +17,10 @@ mod share;
 mod store;
 mod tally;
 
+pub use copies::{StoredCopies, VersionCopies};
 pub use events::Events;
 pub use names::{BlankStore, StoreName};
+pub use opening::NewStore;
 pub use receipt::Receipt;
 pub use share::Share;
 pub use store::{Store, StoreOf, StoredForest};

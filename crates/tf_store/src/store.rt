@@ -8,13 +8,13 @@ ghost use Rattle.tf_manifest.specs.View.{ShowsJournal};
 ghost use Rattle.tf_rows.specs.Counts.{AreBounded};
 ghost use Rattle.tf_store.specs.Book.{book_of, failed_of};
 
-use crate::StoreName;
+use crate::public::Public;
 use crate::queue::Queue;
 use crate::tally::Tally;
+use crate::{StoreName, StoredCopies};
 use std::alloc::Allocator;
 use std::marker::Model;
 use tf_forest::Forest;
-use tf_history::{Front, Head};
 use tf_publish::Rows;
 use tf_rows::{AllRows, MutableRows};
 
@@ -30,40 +30,48 @@ impl<R: AllRows + Drop, A: Allocator + Copy> StoredForest for Forest<R, A> {
     ghost seen = { λ forest. forest };
 }
 
-/// A store over the mutable tables `T` and the sealed tables of registries that live for `'r`.
-pub type StoreOf<'r, T, A, S> = Store<Forest<Rows<'r, T, A, S>, A>, A, S>;
+/// A store over the mutable tables `T` and the sealed tables of registries that live for `'r`, whose readers enter `C`.
+pub type StoreOf<'r, T, C, A, S> = Store<Forest<Rows<'r, T, A, S>, A>, C, A, S>;
 
-/// A ledger with versions: its forest, what its shares count, and the batches whose receipts wait. It is the state that a lock
-/// guards.
+/// A ledger with versions: its forest, what readers see of it, what its shares count, and the batches whose receipts wait. It is
+/// the state that a lock guards.
 ///
-/// Contracts see the forest, and the receipts that wait. Whenever nothing is called on it, its journal is lawful, all of it is kept, no entry is younger than
-/// the clock, its rows are those of the journal, and the sum of its shares is its book: see `forest`, `book` and `gather`.
+/// Contracts see the forest, the journal that readers can see, and the receipts that wait. Whenever nothing is called on it, its
+/// journal is lawful, all of it is kept, no entry is younger than the clock, its rows are those of the journal, and the sum of
+/// its shares is its book: see `forest`, `book` and `gather`.
 #[derive(Drop)]
-pub struct Store<F: StoredForest + Drop, A: Allocator + Copy, S: StoreName> {
+pub struct Store<
+    F: StoredForest + Drop,
+    C: StoredCopies + Drop,
+    A: Allocator + Copy,
+    S: StoreName,
+> {
     pub(crate) forest: F,
     pub(crate) tally: Tally<S>,
-    pub(crate) head: Head<S>,
-    /// As far as the history goes.
-    pub(crate) front: Front<S>,
-    /// How many entries of it the sealed tables show.
-    pub(crate) shown: u64,
+    pub(crate) public: Public<C, S>,
     pub(crate) queue: Queue<A, S>,
     pub(crate) alloc: A,
 }
 
-impl<F: StoredForest + Drop, A: Allocator + Copy, S: StoreName> Model for Store<F, A, S> {
+impl<F: StoredForest + Drop, C: StoredCopies + Drop, A: Allocator + Copy, S: StoreName> Model
+    for Store<F, C, A, S> {
     ghost use Rattle.std.specs.Prelude.{map};
     ghost use Rattle.tf_store.specs.Receipt.{receipt_of};
     ghost use Rattle.tf_store.specs.Store.{IsStore, View};
 
     ghost Value = { View };
 
-    ghost view = { λ s. record { forest = F.seen s.forest; waiting = map (receipt_of (F.seen s.forest).journal) s.queue.waiting } };
+    ghost view = { λ s. record { forest = F.seen s.forest; readable = s.public.readable; waiting = map (receipt_of (F.seen s.forest).journal) s.queue.waiting } };
 
-    ghost invariant = { λ s. IsStore (F.seen s.forest) s.tally s.front s.shown s.queue.waiting };
+    ghost invariant = { λ s. IsStore (F.seen s.forest) s.tally s.public s.queue.waiting };
 }
 
-impl<R: AllRows + Drop, A: Allocator + Copy, S: StoreName> Store<Forest<R, A>, A, S> {
+impl<R: AllRows + Drop, C: StoredCopies + Drop, A: Allocator + Copy, S: StoreName> Store<
+    Forest<R, A>,
+    C,
+    A,
+    S,
+> {
     /// The forest, for look-ups and counts: its rows show the journal, all of which is kept. It takes no memory.
     ///
     /// Every account's balances and limits, every index and the expiry index are those of the journal: `rows` of the forest
@@ -91,8 +99,9 @@ impl<R: AllRows + Drop, A: Allocator + Copy, S: StoreName> Store<Forest<R, A>, A
     }
 }
 
-impl<'r, T: MutableRows + Drop, A: Allocator + Copy, S: StoreName> Store<
+impl<'r, T: MutableRows + Drop, C: StoredCopies + Drop, A: Allocator + Copy, S: StoreName> Store<
     Forest<Rows<'r, T, A, S>, A>,
+    C,
     A,
     S,
 > {

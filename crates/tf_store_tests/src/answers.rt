@@ -1,16 +1,15 @@
 //! Queries and look-ups of versions, which answer as the plain ledger does.
 
 use crate::plain::Plain;
-use std::alloc::{Allocator, Global};
+use std::alloc::Global;
 use std::process::Abort;
 use std::test::Fail;
 use tf_journal::{
     PlainLedger, get_account_balances, get_account_transfers, lookup_accounts, lookup_transfers,
     query_accounts, query_transfers,
 };
-use tf_manifest::Naming;
-use tf_query::Version;
-use tf_records::{AccountFilter, QueryFilter};
+use tf_readers::{Asked, Found, Publishable};
+use tf_records::{Account, AccountFilter, QueryFilter, Transfer};
 
 /// The transfers of an account on both sides, rising or falling.
 fn of_account(account_id: u128, flags: u32) -> AccountFilter {
@@ -45,9 +44,9 @@ fn of_code(code: u16, flags: u32) -> QueryFilter {
 }
 
 /// A version answers each query of these and each look-up as the plain ledger does. Tells how many rows the answers have.
-pub fn assert_answers<A: Allocator, S: Naming>(
+pub fn assert_answers<V: Publishable>(
     rt: &(impl Abort + AllocGlobal),
-    version: &Version<'_, A, S>,
+    version: &V,
     plain: &Plain,
 ) -> Result<usize, Fail> {
     let mut rows: usize = 0;
@@ -65,49 +64,79 @@ pub fn assert_answers<A: Allocator, S: Naming>(
 }
 
 /// The transfers and the balances of an account.
-fn assert_account<A: Allocator, S: Naming>(
+fn assert_account<V: Publishable>(
     rt: &(impl Abort + AllocGlobal),
-    version: &Version<'_, A, S>,
+    version: &V,
     plain: &PlainLedger<Global>,
     filter: &AccountFilter,
 ) -> Result<usize, Fail> {
     let transfers = get_account_transfers(rt.alloc(), plain, filter)?;
-    let found = version.get_account_transfers(rt.alloc(), filter)?;
-    assert!(rt; found.as_slice() == transfers.as_slice());
+    assert_transfers(rt, version, &Asked::AccountTransfers(*filter), &transfers)?;
     let balances = get_account_balances(rt.alloc(), plain, filter)?;
-    let found = version.get_account_balances(rt.alloc(), filter)?;
-    assert!(rt; found.as_slice() == balances.as_slice());
+    match version.ask(rt.alloc(), &Asked::AccountBalances(*filter))? {
+        Found::Balances(found) => assert!(rt; found.as_slice() == balances.as_slice()),
+        _ => return Err(Fail::new("no balances")),
+    }
     Ok(transfers.len().saturating_add(balances.len()))
 }
 
 /// The accounts and the transfers that a filter asks for.
-fn assert_all<A: Allocator, S: Naming>(
+fn assert_all<V: Publishable>(
     rt: &(impl Abort + AllocGlobal),
-    version: &Version<'_, A, S>,
+    version: &V,
     plain: &PlainLedger<Global>,
     filter: &QueryFilter,
 ) -> Result<usize, Fail> {
     let accounts = query_accounts(rt.alloc(), plain, filter)?;
-    let found = version.query_accounts(rt.alloc(), filter)?;
-    assert!(rt; found.as_slice() == accounts.as_slice());
+    assert_accounts(rt, version, &Asked::Accounts(*filter), &accounts)?;
     let transfers = query_transfers(rt.alloc(), plain, filter)?;
-    let found = version.query_transfers(rt.alloc(), filter)?;
-    assert!(rt; found.as_slice() == transfers.as_slice());
+    assert_transfers(rt, version, &Asked::Transfers(*filter), &transfers)?;
     Ok(accounts.len().saturating_add(transfers.len()))
 }
 
 /// The accounts and the transfers with these ids.
-fn assert_ids<A: Allocator, S: Naming>(
+fn assert_ids<V: Publishable>(
     rt: &(impl Abort + AllocGlobal),
-    version: &Version<'_, A, S>,
+    version: &V,
     plain: &PlainLedger<Global>,
 ) -> Result<usize, Fail> {
-    let ids = [7, 1, 5, 2, 1, 3, 20, 21, 0, 22];
-    let accounts = lookup_accounts(rt.alloc(), plain, &ids)?;
-    let found = version.lookup_accounts(rt.alloc(), &ids)?;
-    assert!(rt; found.as_slice() == accounts.as_slice());
-    let transfers = lookup_transfers(rt.alloc(), plain, &ids)?;
-    let found = version.lookup_transfers(rt.alloc(), &ids)?;
-    assert!(rt; found.as_slice() == transfers.as_slice());
-    Ok(accounts.len().saturating_add(transfers.len()))
+    let mut rows: usize = 0;
+    for id in [7, 1, 5, 2, 1, 3, 20, 21, 0, 22] {
+        let accounts = lookup_accounts(rt.alloc(), plain, &[id])?;
+        assert_accounts(rt, version, &Asked::AccountWithId(id), &accounts)?;
+        let transfers = lookup_transfers(rt.alloc(), plain, &[id])?;
+        assert_transfers(rt, version, &Asked::TransferWithId(id), &transfers)?;
+        rows = rows
+            .saturating_add(accounts.len())
+            .saturating_add(transfers.len());
+    }
+    Ok(rows)
+}
+
+/// A version answers with these accounts.
+fn assert_accounts<V: Publishable>(
+    rt: &(impl Abort + AllocGlobal),
+    version: &V,
+    asked: &Asked,
+    accounts: &Vec<Account, Global>,
+) -> Result<(), Fail> {
+    match version.ask(rt.alloc(), asked)? {
+        Found::Accounts(found) => assert!(rt; found.as_slice() == accounts.as_slice()),
+        _ => return Err(Fail::new("no accounts")),
+    }
+    Ok(())
+}
+
+/// A version answers with these transfers.
+fn assert_transfers<V: Publishable>(
+    rt: &(impl Abort + AllocGlobal),
+    version: &V,
+    asked: &Asked,
+    transfers: &Vec<Transfer, Global>,
+) -> Result<(), Fail> {
+    match version.ask(rt.alloc(), asked)? {
+        Found::Transfers(found) => assert!(rt; found.as_slice() == transfers.as_slice()),
+        _ => return Err(Fail::new("no transfers")),
+    }
+    Ok(())
 }

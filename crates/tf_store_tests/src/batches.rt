@@ -11,10 +11,11 @@ use std::alloc::{Allocator, Global};
 use std::process::Abort;
 use std::sync::Wait;
 use std::test::Fail;
+use tf_query::Version;
 use tf_records::{BATCH_MAX, Refusal, TIMESTAMP_MAX, Transfer};
 use tf_rows::SealRows;
 use tf_script::Command;
-use tf_store::{Share, StoreName, StoreOf};
+use tf_store::{Share, StoreName, StoreOf, VersionCopies};
 
 /// A batch of so many accounts, all of which fail.
 fn failing_accounts(alloc: Global, count: u32, now: u64) -> Result<Command<Global>, Refusal> {
@@ -69,10 +70,16 @@ fn cases(alloc: Global) -> Result<[(Command<Global>, Refusal); 6], Refusal> {
 }
 
 /// On a heap that has no byte left, each case is refused by its own limits. Nothing has changed then.
-fn assert_cases_refused<'r, T: SealRows<A> + Drop, A: Allocator + Copy, S: StoreName>(
+fn assert_cases_refused<
+    'r,
+    T: SealRows<A> + Drop,
+    A: Allocator + Copy,
+    S: StoreName,
+    C: VersionCopies<Version<'r, A, S>, S> + Drop,
+>(
     rt: &(impl Abort + AllocGlobal),
     heap: &LocalHeap,
-    store: &mut StoreOf<'r, T, A, S>,
+    store: &mut StoreOf<'r, T, C, A, S>,
     share: &mut Share<S>,
     twin: &mut Twin,
 ) -> Result<(), Fail> {
@@ -90,11 +97,17 @@ fn assert_cases_refused<'r, T: SealRows<A> + Drop, A: Allocator + Copy, S: Store
 
 /// Batches past their limits are refused. The greatest ones are stored, up to the end of the clock, after which only batches
 /// without events are.
-pub fn assert_limits_of_batches<'r, T: SealRows<A> + Drop, A: Allocator + Copy, S: StoreName>(
+pub fn assert_limits_of_batches<
+    'r,
+    T: SealRows<A> + Drop,
+    A: Allocator + Copy,
+    S: StoreName,
+    C: VersionCopies<Version<'r, A, S>, S> + Drop,
+>(
     rt: &(impl Abort + AllocGlobal + Wait),
     alloc: A,
     heap: &LocalHeap,
-    store: &mut StoreOf<'r, T, A, S>,
+    store: &mut StoreOf<'r, T, C, A, S>,
     shares: &mut [Share<S>],
 ) -> Result<(), Fail>
     requires { length shares.old ≡ 64 }

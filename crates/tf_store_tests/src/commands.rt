@@ -4,10 +4,11 @@ use std::alloc::Allocator;
 use std::sync::Wait;
 use std::test::Fail;
 use tf_manifest::Row;
+use tf_query::Version;
 use tf_records::{Refusal, Reply};
 use tf_rows::SealRows;
 use tf_script::Command;
-use tf_store::{Share, StoreName, StoreOf};
+use tf_store::{Share, StoreName, StoreOf, VersionCopies};
 
 /// What a command answers.
 #[derive(Drop)]
@@ -35,11 +36,14 @@ pub fn is_same<A: Allocator, B: Allocator>(one: &Outcome<A>, other: &Outcome<B>)
 }
 
 /// Runs a batch or a pulse, and no other command.
-pub fn run<'r, T: SealRows<A> + Drop, A: Allocator + Copy, S: StoreName, B: Allocator>(
-    store: &mut StoreOf<'r, T, A, S>,
-    share: &mut Share<S>,
-    command: &Command<B>,
-) -> Outcome<A> {
+pub fn run<
+    'r,
+    T: SealRows<A> + Drop,
+    A: Allocator + Copy,
+    S: StoreName,
+    C: VersionCopies<Version<'r, A, S>, S> + Drop,
+    B: Allocator,
+>(store: &mut StoreOf<'r, T, C, A, S>, share: &mut Share<S>, command: &Command<B>) -> Outcome<A> {
     match command {
         Command::Accounts { now, events } => Ok(Answer::Batch(store.create_accounts(
             events.as_slice(),
@@ -57,12 +61,13 @@ pub fn run<'r, T: SealRows<A> + Drop, A: Allocator + Copy, S: StoreName, B: Allo
 }
 
 /// Merges the next run of a row, and puts it in its place. It tells whether there was one.
-pub fn merge_next<'r, T: SealRows<A> + Drop, A: Allocator + Copy, S: StoreName>(
-    rt: &impl Wait,
-    alloc: A,
-    store: &mut StoreOf<'r, T, A, S>,
-    row: Row,
-) -> Result<bool, Fail> {
+pub fn merge_next<
+    'r,
+    T: SealRows<A> + Drop,
+    A: Allocator + Copy,
+    S: StoreName,
+    C: VersionCopies<Version<'r, A, S>, S> + Drop,
+>(rt: &impl Wait, alloc: A, store: &mut StoreOf<'r, T, C, A, S>, row: Row) -> Result<bool, Fail> {
     let Some(job) = store.pick(row) else {
         return Ok(false);
     };
@@ -73,11 +78,13 @@ pub fn merge_next<'r, T: SealRows<A> + Drop, A: Allocator + Copy, S: StoreName>(
 }
 
 /// Merges the next run of each row that has one. Tells how many there were.
-fn merge_each<'r, T: SealRows<A> + Drop, A: Allocator + Copy, S: StoreName>(
-    rt: &impl Wait,
-    alloc: A,
-    store: &mut StoreOf<'r, T, A, S>,
-) -> Result<u32, Fail> {
+fn merge_each<
+    'r,
+    T: SealRows<A> + Drop,
+    A: Allocator + Copy,
+    S: StoreName,
+    C: VersionCopies<Version<'r, A, S>, S> + Drop,
+>(rt: &impl Wait, alloc: A, store: &mut StoreOf<'r, T, C, A, S>) -> Result<u32, Fail> {
     let mut merges: u32 = 0;
     for row in Row::ALL {
         if merge_next(rt, alloc, store, row)? {
@@ -88,11 +95,13 @@ fn merge_each<'r, T: SealRows<A> + Drop, A: Allocator + Copy, S: StoreName>(
 }
 
 /// Merges the runs of all rows until none has one. Tells how many there were.
-pub fn merge_all<'r, T: SealRows<A> + Drop, A: Allocator + Copy, S: StoreName>(
-    rt: &impl Wait,
-    alloc: A,
-    store: &mut StoreOf<'r, T, A, S>,
-) -> Result<u32, Fail> {
+pub fn merge_all<
+    'r,
+    T: SealRows<A> + Drop,
+    A: Allocator + Copy,
+    S: StoreName,
+    C: VersionCopies<Version<'r, A, S>, S> + Drop,
+>(rt: &impl Wait, alloc: A, store: &mut StoreOf<'r, T, C, A, S>) -> Result<u32, Fail> {
     let mut merges: u32 = 0;
     for _ in 0..1000u32 {
         let more = merge_each(rt, alloc, store)?;

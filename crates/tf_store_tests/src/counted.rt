@@ -2,8 +2,9 @@
 
 use std::alloc::Allocator;
 use tf_manifest::Row;
+use tf_query::Version;
 use tf_rows::SealRows;
-use tf_store::{StoreName, StoreOf};
+use tf_store::{StoreName, StoreOf, VersionCopies};
 
 /// Tables pushed, their entries, and the tables of each row.
 #[derive(Clone, Copy, Debug, PartialEq, Eq)]
@@ -17,9 +18,13 @@ pub struct Counted {
 
 impl Counted {
     /// What a store counts now.
-    pub fn of<'r, T: SealRows<A> + Drop, A: Allocator + Copy, S: StoreName>(
-        store: &StoreOf<'r, T, A, S>,
-    ) -> Counted {
+    pub fn of<
+        'r,
+        T: SealRows<A> + Drop,
+        A: Allocator + Copy,
+        S: StoreName,
+        C: VersionCopies<Version<'r, A, S>, S> + Drop,
+    >(store: &StoreOf<'r, T, C, A, S>) -> Counted {
         Counted {
             registered: store.registered(),
             rows_sealed: store.rows_sealed(),
@@ -30,9 +35,13 @@ impl Counted {
 }
 
 /// How many tables each row has.
-pub fn references<'r, T: SealRows<A> + Drop, A: Allocator + Copy, S: StoreName>(
-    store: &StoreOf<'r, T, A, S>,
-) -> [u32; 21] {
+pub fn references<
+    'r,
+    T: SealRows<A> + Drop,
+    A: Allocator + Copy,
+    S: StoreName,
+    C: VersionCopies<Version<'r, A, S>, S> + Drop,
+>(store: &StoreOf<'r, T, C, A, S>) -> [u32; 21] {
     let manifest = store.forest().rows().published.manifest();
     let mut references = [0; 21];
     for place in 0..21usize {

@@ -10,15 +10,22 @@ use std::alloc::Allocator;
 use std::process::Abort;
 use std::sync::Wait;
 use std::test::Fail;
+use tf_query::Version;
 use tf_rows::SealRows;
 use tf_script::Command;
-use tf_store::{Share, StoreName, StoreOf};
+use tf_store::{Share, StoreName, StoreOf, VersionCopies};
 
 /// Makes each call of a round with so much room on the heap, whatever is refused.
-fn call_each<'r, T: SealRows<A> + Drop, A: Allocator + Copy, S: StoreName>(
+fn call_each<
+    'r,
+    T: SealRows<A> + Drop,
+    A: Allocator + Copy,
+    S: StoreName,
+    C: VersionCopies<Version<'r, A, S>, S> + Drop,
+>(
     rt: &(impl Abort + AllocGlobal + Wait),
     heap: &LocalHeap,
-    store: &mut StoreOf<'r, T, A, S>,
+    store: &mut StoreOf<'r, T, C, A, S>,
     share: &mut Share<S>,
     room: usize,
 ) -> Result<(), Fail> {
@@ -34,11 +41,17 @@ fn call_each<'r, T: SealRows<A> + Drop, A: Allocator + Copy, S: StoreName>(
 }
 
 /// After a round with ample memory, calls are made with so much room, and the store is dropped then.
-pub fn drop_after_calls<'r, T: SealRows<A> + Drop, A: Allocator + Copy, S: StoreName>(
+pub fn drop_after_calls<
+    'r,
+    T: SealRows<A> + Drop,
+    A: Allocator + Copy,
+    S: StoreName,
+    C: VersionCopies<Version<'r, A, S>, S> + Drop,
+>(
     rt: &(impl Abort + AllocGlobal + Wait),
     alloc: A,
     heap: &LocalHeap,
-    store: &mut StoreOf<'r, T, A, S>,
+    store: &mut StoreOf<'r, T, C, A, S>,
     shares: &mut [Share<S>],
     room: usize,
 ) -> Result<(), Fail>

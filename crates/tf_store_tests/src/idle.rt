@@ -10,9 +10,10 @@ use std::alloc::Allocator;
 use std::process::Abort;
 use std::sync::Wait;
 use std::test::Fail;
+use tf_query::Version;
 use tf_rows::SealRows;
 use tf_script::Command;
-use tf_store::{Share, StoreName, StoreOf};
+use tf_store::{Share, StoreName, StoreOf, VersionCopies};
 
 /// On a heap that has no byte left, a publish hands out the receipts of batches that stored nothing, another one hands out
 /// none, and a version is taken.
@@ -21,11 +22,12 @@ pub fn assert_idle_publish_takes_nothing<
     T: SealRows<A> + Drop,
     A: Allocator + Copy,
     S: StoreName,
+    C: VersionCopies<Version<'r, A, S>, S> + Drop,
 >(
     rt: &(impl Abort + AllocGlobal + Wait),
     alloc: A,
     heap: &LocalHeap,
-    store: &mut StoreOf<'r, T, A, S>,
+    store: &mut StoreOf<'r, T, C, A, S>,
     shares: &mut [Share<S>],
 ) -> Result<(), Fail>
     requires { length shares.old ≡ 64 }

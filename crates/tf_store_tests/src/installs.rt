@@ -13,19 +13,26 @@ use std::process::Abort;
 use std::sync::Wait;
 use std::test::Fail;
 use tf_manifest::{Merged, Row, Uninstalled};
+use tf_query::Version;
 use tf_records::Refusal;
 use tf_rows::SealRows;
 use tf_script::Command;
-use tf_store::{Share, StoreName, StoreOf};
+use tf_store::{Share, StoreName, StoreOf, VersionCopies};
 
 /// How many tables five publishes push, of which the first has accounts and all have a transfer of one with history.
 pub const FIVE_PUBLISHES: u32 = 18 + 4 * 11;
 
 /// Stores transfers with these ids, each in a batch of its own, which is published. That with id 1 comes after accounts.
-fn publish_each<'r, T: SealRows<A> + Drop, A: Allocator + Copy, S: StoreName>(
+fn publish_each<
+    'r,
+    T: SealRows<A> + Drop,
+    A: Allocator + Copy,
+    S: StoreName,
+    C: VersionCopies<Version<'r, A, S>, S> + Drop,
+>(
     rt: &(impl Abort + AllocGlobal + Wait),
     alloc: A,
-    store: &mut StoreOf<'r, T, A, S>,
+    store: &mut StoreOf<'r, T, C, A, S>,
     shares: &mut [Share<S>],
     twin: &mut Twin,
     ids: Range<u64>,
@@ -43,11 +50,36 @@ fn publish_each<'r, T: SealRows<A> + Drop, A: Allocator + Copy, S: StoreName>(
     Ok(())
 }
 
+/// An install of the next merge of a row is refused, since as many tables were pushed as may be.
+fn assert_no_room<
+    'r,
+    T: SealRows<A> + Drop,
+    A: Allocator + Copy,
+    S: StoreName,
+    C: VersionCopies<Version<'r, A, S>, S> + Drop,
+>(
+    rt: &(impl Abort + Wait),
+    alloc: A,
+    store: &mut StoreOf<'r, T, C, A, S>,
+    row: Row,
+) -> Result<(), Fail> {
+    let job = store.pick(row).ok_or("no job")?;
+    let merged = job.merge(alloc)?;
+    assert!(rt; matches!(store.install(rt, merged), Err(Uninstalled::RegistryFull)));
+    Ok(())
+}
+
 /// Where publishes pushed as many tables as may be pushed, an install is refused, and changes nothing.
-pub fn assert_install_is_refused<'r, T: SealRows<A> + Drop, A: Allocator + Copy, S: StoreName>(
+pub fn assert_install_is_refused<
+    'r,
+    T: SealRows<A> + Drop,
+    A: Allocator + Copy,
+    S: StoreName,
+    C: VersionCopies<Version<'r, A, S>, S> + Drop,
+>(
     rt: &(impl Abort + AllocGlobal + Wait),
     alloc: A,
-    store: &mut StoreOf<'r, T, A, S>,
+    store: &mut StoreOf<'r, T, C, A, S>,
     shares: &mut [Share<S>],
 ) -> Result<(), Fail>
     requires { length shares.old ≡ 64 }
@@ -56,10 +88,8 @@ pub fn assert_install_is_refused<'r, T: SealRows<A> + Drop, A: Allocator + Copy,
     let mut twin = Twin::new(rt.alloc());
     publish_each(rt, alloc, store, shares, &mut twin, 1..6)?;
     assert_eq!(rt; store.registered(), FIVE_PUBLISHES);
-    let job = store.pick(Row::TransferIds).ok_or("no job")?;
-    let merged = job.merge(alloc)?;
     let counted = Counted::of(store);
-    assert!(rt; matches!(store.install(rt, merged), Err(Uninstalled::RegistryFull)));
+    assert_no_room(rt, alloc, store, Row::TransferIds)?;
     assert_eq!(rt; Counted::of(store), counted);
     assert_alike(rt, store, twin.plain());
     Ok(())
@@ -85,11 +115,17 @@ fn without_growth<'h>(
 }
 
 /// An install for which a registry has to grow is refused memory, and hands the merged table back, which is installed then.
-pub fn assert_install_hands_back<'r, T: SealRows<A> + Drop, A: Allocator + Copy, S: StoreName>(
+pub fn assert_install_hands_back<
+    'r,
+    T: SealRows<A> + Drop,
+    A: Allocator + Copy,
+    S: StoreName,
+    C: VersionCopies<Version<'r, A, S>, S> + Drop,
+>(
     rt: &(impl Abort + AllocGlobal + Wait),
     alloc: A,
     heap: &LocalHeap,
-    store: &mut StoreOf<'r, T, A, S>,
+    store: &mut StoreOf<'r, T, C, A, S>,
     shares: &mut [Share<S>],
 ) -> Result<(), Fail>
     requires { length shares.old ≡ 64 }
@@ -121,35 +157,75 @@ fn handed_back<M: Drop>(outcome: Result<(), Uninstalled<M>>) -> Result<M, Fail> 
     }
 }
 
-/// Installs a merged table while no registry can grow, which hands it back.
-fn install_without_growth<'r, T: SealRows<A> + Drop, A: Allocator + Copy, S: StoreName>(
+/// Installs the next merge of a row while no registry can grow, which hands it back.
+fn install_without_growth<
+    'r,
+    T: SealRows<A> + Drop,
+    A: Allocator + Copy,
+    S: StoreName,
+    C: VersionCopies<Version<'r, A, S>, S> + Drop,
+>(
     rt: &(impl AllocGlobal + Wait),
+    alloc: A,
     heap: &LocalHeap,
-    store: &mut StoreOf<'r, T, A, S>,
-    merged: Merged<'r, A, S>,
+    store: &mut StoreOf<'r, T, C, A, S>,
+    row: Row,
 ) -> Result<Merged<'r, A, S>, Fail> {
+    let job = store.pick(row).ok_or("no job")?;
+    let merged = job.merge(alloc)?;
     let taken = without_growth(rt.alloc(), heap)?;
     let outcome = store.install(rt, merged);
     drop(taken);
     handed_back(outcome)
 }
 
+/// A store is as it was counted, and answers as its twin does.
+fn assert_unchanged<
+    'r,
+    T: SealRows<A> + Drop,
+    A: Allocator + Copy,
+    S: StoreName,
+    C: VersionCopies<Version<'r, A, S>, S> + Drop,
+>(rt: &impl Abort, store: &StoreOf<'r, T, C, A, S>, twin: &Twin, counted: &Counted) {
+    assert_eq!(rt; Counted::of(store), *counted);
+    assert_alike(rt, store, twin.plain());
+}
+
+/// A merged table is installed, as the table of this number.
+fn assert_installed<
+    'r,
+    T: SealRows<A> + Drop,
+    A: Allocator + Copy,
+    S: StoreName,
+    C: VersionCopies<Version<'r, A, S>, S> + Drop,
+>(
+    rt: &(impl Abort + Wait),
+    store: &mut StoreOf<'r, T, C, A, S>,
+    merged: Merged<'r, A, S>,
+    number: u32,
+) {
+    assert!(rt; store.install(rt, merged).is_ok());
+    assert_eq!(rt; store.registered(), number);
+}
+
 /// The next merge of the ids of transfers is handed back, and then installed.
-fn assert_handed_back<'r, T: SealRows<A> + Drop, A: Allocator + Copy, S: StoreName>(
+fn assert_handed_back<
+    'r,
+    T: SealRows<A> + Drop,
+    A: Allocator + Copy,
+    S: StoreName,
+    C: VersionCopies<Version<'r, A, S>, S> + Drop,
+>(
     rt: &(impl Abort + AllocGlobal + Wait),
     alloc: A,
     heap: &LocalHeap,
-    store: &mut StoreOf<'r, T, A, S>,
+    store: &mut StoreOf<'r, T, C, A, S>,
     twin: &Twin,
 ) -> Result<(), Fail> {
-    let job = store.pick(Row::TransferIds).ok_or("no job")?;
-    let merged = job.merge(alloc)?;
     let counted = Counted::of(store);
-    let merged = install_without_growth(rt, heap, store, merged)?;
-    assert_eq!(rt; Counted::of(store), counted);
-    assert_alike(rt, store, twin.plain());
-    assert!(rt; store.install(rt, merged).is_ok());
-    assert_eq!(rt; store.registered(), counted.registered.wrapping_add(1));
+    let merged = install_without_growth(rt, alloc, heap, store, Row::TransferIds)?;
+    assert_unchanged(rt, store, twin, &counted);
+    assert_installed(rt, store, merged, counted.registered.wrapping_add(1));
     assert_alike(rt, store, twin.plain());
     Ok(())
 }

@@ -35,6 +35,8 @@ mod plain;
 #[cfg(test)]
 mod pulses;
 #[cfg(test)]
+mod readers;
+#[cfg(test)]
 mod receipts;
 #[cfg(test)]
 mod refusals;

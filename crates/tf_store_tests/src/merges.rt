@@ -10,24 +10,42 @@ use std::alloc::Allocator;
 use std::process::Abort;
 use std::sync::Wait;
 use std::test::Fail;
-use tf_manifest::{Row, Uninstalled};
+use tf_manifest::{Merged, Row, Uninstalled};
+use tf_query::Version;
 use tf_rows::SealRows;
-use tf_store::{Share, StoreName, StoreOf};
+use tf_store::{Share, StoreName, StoreOf, VersionCopies};
 
-/// Merges the next run of a row twice. The first merge is installed, after which look-ups and versions answer as before, and
-/// the second is stale. It tells whether there was a run.
-fn merge_twice<'r, T: SealRows<A> + Drop, A: Allocator + Copy, S: StoreName>(
-    rt: &(impl Abort + AllocGlobal + Wait),
+/// The next run of a row, merged twice, if there is one.
+fn merged_twice<
+    'r,
+    T: SealRows<A> + Drop,
+    A: Allocator + Copy,
+    S: StoreName,
+    C: VersionCopies<Version<'r, A, S>, S> + Drop,
+>(
     alloc: A,
-    store: &mut StoreOf<'r, T, A, S>,
-    twin: &Twin,
+    store: &StoreOf<'r, T, C, A, S>,
     row: Row,
-) -> Result<bool, Fail> {
+) -> Result<Option<(Merged<'r, A, S>, Merged<'r, A, S>)>, Fail> {
     let (Some(first), Some(second)) = (store.pick(row), store.pick(row)) else {
-        return Ok(false);
+        return Ok(None);
     };
-    let merged = first.merge(alloc)?;
-    let stale = second.merge(alloc)?;
+    Ok(Some((first.merge(alloc)?, second.merge(alloc)?)))
+}
+
+/// Of two merges of one run the first is installed, and the second is stale, which changes nothing.
+fn install_twice<
+    'r,
+    T: SealRows<A> + Drop,
+    A: Allocator + Copy,
+    S: StoreName,
+    C: VersionCopies<Version<'r, A, S>, S> + Drop,
+>(
+    rt: &(impl Abort + Wait),
+    store: &mut StoreOf<'r, T, C, A, S>,
+    merged: Merged<'r, A, S>,
+    stale: Merged<'r, A, S>,
+) {
     let before = Counted::of(store);
     assert!(rt; store.install(rt, merged).is_ok());
     let after = Counted::of(store);
@@ -35,16 +53,43 @@ fn merge_twice<'r, T: SealRows<A> + Drop, A: Allocator + Copy, S: StoreName>(
     assert_eq!(rt; after.rows_sealed, before.rows_sealed);
     assert!(rt; matches!(store.install(rt, stale), Err(Uninstalled::Stale)));
     assert_eq!(rt; Counted::of(store), after);
+}
+
+/// Merges the next run of a row twice. The first merge is installed, after which look-ups and versions answer as before, and
+/// the second is stale. It tells whether there was a run.
+fn merge_twice<
+    'r,
+    T: SealRows<A> + Drop,
+    A: Allocator + Copy,
+    S: StoreName,
+    C: VersionCopies<Version<'r, A, S>, S> + Drop,
+>(
+    rt: &(impl Abort + AllocGlobal + Wait),
+    alloc: A,
+    store: &mut StoreOf<'r, T, C, A, S>,
+    twin: &Twin,
+    row: Row,
+) -> Result<bool, Fail> {
+    let Some((merged, stale)) = merged_twice(alloc, store, row)? else {
+        return Ok(false);
+    };
+    install_twice(rt, store, merged, stale);
     assert_alike(rt, store, twin.plain());
     let _rows = assert_answers(rt, &store.take_version(rt)?, twin.plain())?;
     Ok(true)
 }
 
 /// Merges a row until it has no run more. It has one at least.
-fn merge_row<'r, T: SealRows<A> + Drop, A: Allocator + Copy, S: StoreName>(
+fn merge_row<
+    'r,
+    T: SealRows<A> + Drop,
+    A: Allocator + Copy,
+    S: StoreName,
+    C: VersionCopies<Version<'r, A, S>, S> + Drop,
+>(
     rt: &(impl Abort + AllocGlobal + Wait),
     alloc: A,
-    store: &mut StoreOf<'r, T, A, S>,
+    store: &mut StoreOf<'r, T, C, A, S>,
     twin: &Twin,
     row: Row,
 ) -> Result<(), Fail> {
@@ -58,10 +103,16 @@ fn merge_row<'r, T: SealRows<A> + Drop, A: Allocator + Copy, S: StoreName>(
 }
 
 /// Eight rounds leave eight tables in each row, which are then merged to the end.
-pub fn assert_rows_are_merged<'r, T: SealRows<A> + Drop, A: Allocator + Copy, S: StoreName>(
+pub fn assert_rows_are_merged<
+    'r,
+    T: SealRows<A> + Drop,
+    A: Allocator + Copy,
+    S: StoreName,
+    C: VersionCopies<Version<'r, A, S>, S> + Drop,
+>(
     rt: &(impl Abort + AllocGlobal + Wait),
     alloc: A,
-    store: &mut StoreOf<'r, T, A, S>,
+    store: &mut StoreOf<'r, T, C, A, S>,
     shares: &mut [Share<S>],
 ) -> Result<(), Fail>
     requires { length shares.old ≡ 64 }

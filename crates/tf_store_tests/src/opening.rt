@@ -4,9 +4,10 @@
 //! store stops at the checker's limit of steps.
 ghost use Rattle.std.specs.Prelude.{◌≡◌, ◌<◌, vec_len};
 ghost use Rattle.tf_manifest.specs.Registries.{AreShelves};
-ghost use Rattle.tf_store_tests.specs.Rooms.{FitsRows};
+ghost use Rattle.tf_store.specs.Rooms.{FitsRows};
 
 use crate::memory::all_but;
+use crate::readers::assert_closed;
 use crate::trials::Trial;
 use linked_list_allocator::LocalHeap;
 use std::alloc::Allocator;
@@ -16,9 +17,13 @@ use std::sync::Wait;
 use std::test::Fail;
 use tf_forest::Forest;
 use tf_manifest::Registries;
+use tf_query::Version;
+use tf_readers::{Publishable, Reader, VersionOf};
 use tf_records::Refusal;
 use tf_rows::{AllRows, EmptyRows, MutableTables, SealRows};
-use tf_store::{BlankStore, Share, Store, StoreName, StoreOf};
+use tf_store::{
+    BlankStore, NewStore, Share, Store, StoreName, StoreOf, StoredCopies, VersionCopies,
+};
 
 /// How many shares each store has.
 const SHARES: u32 = 64;
@@ -27,9 +32,9 @@ const SHARES: u32 = 64;
 pub const AMPLE: usize = 1 << 22;
 
 /// The sum of all shares is the book.
-fn assert_gathered<R: AllRows + Drop, A: Allocator + Copy, S: StoreName>(
+fn assert_gathered<R: AllRows + Drop, C: StoredCopies + Drop, A: Allocator + Copy, S: StoreName>(
     rt: &impl Abort,
-    store: &mut Store<Forest<R, A>, A, S>,
+    store: &mut Store<Forest<R, A>, C, A, S>,
     shares: Vec<Share<S>, A>,
 )
     requires { (0 < vec_len shares) × (vec_len shares ≡ S.parts) }
@@ -39,7 +44,76 @@ fn assert_gathered<R: AllRows + Drop, A: Allocator + Copy, S: StoreName>(
 }
 
 /// An empty store with its shares, on which a trial is run, unless there is no memory for it. At last the shares are gathered.
-fn with_rows<'r, T, A, S>(
+fn with_rows<'r, T, A, S, V>(
+    rt: &(impl Abort + AllocGlobal + Wait),
+    alloc: A,
+    heap: &LocalHeap,
+    registries: &'r Registries<A>,
+    blank: BlankStore,
+    trial: Trial,
+) -> Result<(), Fail>
+where
+    T: EmptyRows<A> + SealRows<A> + Drop,
+    V: VersionOf<Version<'r, A, S>> + Publishable + Drop,
+    A: Allocator + Copy,
+    S: StoreName,
+    requires fits { FitsRows T.row }
+    requires name { blank.ledger.name ≡ S.name }
+    requires parts { (blank.ledger.parts ≡ S.parts) × (S.parts ≡ 64) }
+    requires history { blank.history ≡ S.history }
+    requires registries { AreShelves S.shelf registries.now }
+{
+    let opened: Result<NewStore<'r, T, V, A, S, _>, Refusal> = Store::new(
+        alloc,
+        rt,
+        registries,
+        blank,
+        SHARES,
+        trial.readers(),
+    );
+    match opened {
+        Ok((store, shares, mut readers)) => {
+            let readers = readers.as_mut_slice();
+            {
+                let mut store = store;
+                with_store(rt, alloc, heap, &mut store, shares, readers, trial)?;
+            }
+            assert_closed(rt, readers)
+        }
+        Err(refusal) => {
+            assert!(rt; trial.lacks_memory());
+            assert_eq!(rt; refusal, Refusal::NoMemory);
+            Ok(())
+        }
+    }
+}
+
+/// A store on which a trial is run. At last its shares are gathered. It is generic in what readers enter.
+fn with_store<'r, T, A, S, V, C>(
+    rt: &(impl Abort + AllocGlobal + Wait),
+    alloc: A,
+    heap: &LocalHeap,
+    store: &mut StoreOf<'r, T, C, A, S>,
+    mut shares: Vec<Share<S>, A>,
+    readers: &mut [Reader<V, A, S>],
+    trial: Trial,
+) -> Result<(), Fail>
+where
+    T: SealRows<A> + Drop,
+    V: Publishable + Drop,
+    C: VersionCopies<Version<'r, A, S>, S> + Drop,
+    A: Allocator + Copy,
+    S: StoreName,
+    requires { (vec_len shares ≡ 64) × (S.parts ≡ 64) }
+{
+    trial.run(rt, alloc, heap, store, shares.as_mut_slice(), readers)?;
+    assert_gathered(rt, store, shares);
+    Ok(())
+}
+
+/// A store whose readers read versions. All that is generic in the version is below: type parameters stand in the same places
+/// in all of it, so that no check compares the parts of a version.
+fn with_version<'r, T, A, S>(
     rt: &(impl Abort + AllocGlobal + Wait),
     alloc: A,
     heap: &LocalHeap,
@@ -57,20 +131,7 @@ where
     requires history { blank.history ≡ S.history }
     requires registries { AreShelves S.shelf registries.now }
 {
-    let opened: Result<(StoreOf<'r, T, A, S>, Vec<Share<S>, A>), Refusal> = Store::new(
-        alloc, registries, blank, SHARES,
-    );
-    match opened {
-        Ok((mut store, mut shares)) => {
-            trial.run(rt, alloc, heap, &mut store, shares.as_mut_slice())?;
-            assert_gathered(rt, &mut store, shares);
-        }
-        Err(refusal) => {
-            assert!(rt; trial.lacks_memory());
-            assert_eq!(rt; refusal, Refusal::NoMemory);
-        }
-    }
-    Ok(())
+    with_rows::<T, A, S, Version<'r, A, S>>(rt, alloc, heap, registries, blank, trial)
 }
 
 /// A store whose mutable tables lie on a heap.
@@ -86,7 +147,7 @@ fn with_name<'h, S: StoreName>(
     requires history { blank.history ≡ S.history }
     requires registries { AreShelves S.shelf registries.now }
 {
-    with_rows::<MutableTables<&'h LocalHeap>, &'h LocalHeap, S>(
+    with_version::<MutableTables<&'h LocalHeap>, &'h LocalHeap, S>(
         rt, heap, heap, registries, blank, trial,
     )
 }

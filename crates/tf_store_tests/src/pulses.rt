@@ -6,9 +6,10 @@ use std::alloc::Allocator;
 use std::process::Abort;
 use std::sync::Wait;
 use std::test::Fail;
+use tf_query::Version;
 use tf_rows::SealRows;
 use tf_script::parse;
-use tf_store::{Share, StoreName, StoreOf};
+use tf_store::{Share, StoreName, StoreOf, VersionCopies};
 
 /// Two accounts and four pending transfers, of which three have a timeout. The second worker expires two of them and then
 /// the third.
@@ -29,10 +30,16 @@ const PULSES: &str = "accounts 1000\n\
     pulse 3000000000 10\n";
 
 /// Three transfers expire, two in one pulse and one in another.
-pub fn assert_pulses_are_counted<'r, T: SealRows<A> + Drop, A: Allocator + Copy, S: StoreName>(
+pub fn assert_pulses_are_counted<
+    'r,
+    T: SealRows<A> + Drop,
+    A: Allocator + Copy,
+    S: StoreName,
+    C: VersionCopies<Version<'r, A, S>, S> + Drop,
+>(
     rt: &(impl Abort + AllocGlobal + Wait),
     alloc: A,
-    store: &mut StoreOf<'r, T, A, S>,
+    store: &mut StoreOf<'r, T, C, A, S>,
     shares: &mut [Share<S>],
 ) -> Result<(), Fail>
     requires { length shares.old ≡ 64 }

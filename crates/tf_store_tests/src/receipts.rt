@@ -6,10 +6,11 @@ use std::alloc::Allocator;
 use std::process::Abort;
 use std::sync::Wait;
 use std::test::Fail;
+use tf_query::Version;
 use tf_records::{Failure, Outcome};
 use tf_rows::SealRows;
 use tf_script::parse;
-use tf_store::{Share, StoreName, StoreOf};
+use tf_store::{Share, StoreName, StoreOf, VersionCopies};
 
 /// Batches that two workers store in turn: some events fail, all of them, or there are none. The fourth event of transfers
 /// fails for a passing reason, and its id stays failed.
@@ -81,10 +82,16 @@ const LATER: &str = "transfers 0\n\
     end\n";
 
 /// The first publish hands out six receipts, the second none, and the third the one of the batch since then.
-pub fn assert_receipts_are_handed_out<'r, T: SealRows<A> + Drop, A: Allocator + Copy, S: StoreName>(
+pub fn assert_receipts_are_handed_out<
+    'r,
+    T: SealRows<A> + Drop,
+    A: Allocator + Copy,
+    S: StoreName,
+    C: VersionCopies<Version<'r, A, S>, S> + Drop,
+>(
     rt: &(impl Abort + AllocGlobal + Wait),
     alloc: A,
-    store: &mut StoreOf<'r, T, A, S>,
+    store: &mut StoreOf<'r, T, C, A, S>,
     shares: &mut [Share<S>],
 ) -> Result<(), Fail>
     requires { length shares.old ≡ 64 }
@@ -105,9 +112,15 @@ pub fn assert_receipts_are_handed_out<'r, T: SealRows<A> + Drop, A: Allocator + 
 }
 
 /// The receipts of the worked batches.
-fn assert_six_handed_out<'r, T: SealRows<A> + Drop, A: Allocator + Copy, S: StoreName>(
+fn assert_six_handed_out<
+    'r,
+    T: SealRows<A> + Drop,
+    A: Allocator + Copy,
+    S: StoreName,
+    C: VersionCopies<Version<'r, A, S>, S> + Drop,
+>(
     rt: &(impl Abort + Wait),
-    store: &mut StoreOf<'r, T, A, S>,
+    store: &mut StoreOf<'r, T, C, A, S>,
     twin: &mut Twin,
 ) -> Result<(), Fail> {
     let receipts = store.publish(rt)?;

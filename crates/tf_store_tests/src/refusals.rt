@@ -14,10 +14,11 @@ use std::alloc::{Allocator, Global};
 use std::process::Abort;
 use std::sync::Wait;
 use std::test::Fail;
+use tf_query::Version;
 use tf_records::Refusal;
 use tf_rows::SealRows;
 use tf_script::Command;
-use tf_store::{Share, StoreName, StoreOf};
+use tf_store::{Share, StoreName, StoreOf, VersionCopies};
 
 /// How many bytes more are free at each further try.
 const STEP: usize = 3 * OFFSET;
@@ -27,10 +28,16 @@ const OFFSET: usize = 48;
 
 /// Runs a batch or a pulse with hardly any room at first and then more and more, until it isn't refused any more. After each
 /// refusal all is as before, and at last it answers as the plain ledger does. Tells how often it was refused.
-fn run_at_last<'r, T: SealRows<A> + Drop, A: Allocator + Copy, S: StoreName>(
+fn run_at_last<
+    'r,
+    T: SealRows<A> + Drop,
+    A: Allocator + Copy,
+    S: StoreName,
+    C: VersionCopies<Version<'r, A, S>, S> + Drop,
+>(
     rt: &(impl Abort + AllocGlobal),
     heap: &LocalHeap,
-    store: &mut StoreOf<'r, T, A, S>,
+    store: &mut StoreOf<'r, T, C, A, S>,
     share: &mut Share<S>,
     twin: &mut Twin,
     command: &Command<Global>,
@@ -52,12 +59,13 @@ fn run_at_last<'r, T: SealRows<A> + Drop, A: Allocator + Copy, S: StoreName>(
 }
 
 /// A refused publish has left all as before, but for tables that were pushed.
-fn assert_unpublished<'r, T: SealRows<A> + Drop, A: Allocator + Copy, S: StoreName>(
-    rt: &impl Abort,
-    store: &StoreOf<'r, T, A, S>,
-    twin: &Twin,
-    before: &Counted,
-) {
+fn assert_unpublished<
+    'r,
+    T: SealRows<A> + Drop,
+    A: Allocator + Copy,
+    S: StoreName,
+    C: VersionCopies<Version<'r, A, S>, S> + Drop,
+>(rt: &impl Abort, store: &StoreOf<'r, T, C, A, S>, twin: &Twin, before: &Counted) {
     assert_alike(rt, store, twin.plain());
     assert_eq!(rt; references(store), before.references);
     assert!(rt; store.registered() >= before.registered);
@@ -66,10 +74,16 @@ fn assert_unpublished<'r, T: SealRows<A> + Drop, A: Allocator + Copy, S: StoreNa
 
 /// Publishes with hardly any room at first and then more and more. At last it hands out the receipts of all that waited. Tells
 /// how often it was refused.
-fn publish_at_last<'r, T: SealRows<A> + Drop, A: Allocator + Copy, S: StoreName>(
+fn publish_at_last<
+    'r,
+    T: SealRows<A> + Drop,
+    A: Allocator + Copy,
+    S: StoreName,
+    C: VersionCopies<Version<'r, A, S>, S> + Drop,
+>(
     rt: &(impl Abort + AllocGlobal + Wait),
     heap: &LocalHeap,
-    store: &mut StoreOf<'r, T, A, S>,
+    store: &mut StoreOf<'r, T, C, A, S>,
     twin: &mut Twin,
     least: usize,
 ) -> Result<usize, Fail> {
@@ -93,10 +107,16 @@ fn publish_at_last<'r, T: SealRows<A> + Drop, A: Allocator + Copy, S: StoreName>
 
 /// Takes a version with hardly any room at first and then more and more. At last it answers as the plain ledger does, and
 /// receipts go on waiting. Tells how often it was refused.
-fn take_version_at_last<'r, T: SealRows<A> + Drop, A: Allocator + Copy, S: StoreName>(
+fn take_version_at_last<
+    'r,
+    T: SealRows<A> + Drop,
+    A: Allocator + Copy,
+    S: StoreName,
+    C: VersionCopies<Version<'r, A, S>, S> + Drop,
+>(
     rt: &(impl Abort + AllocGlobal + Wait),
     heap: &LocalHeap,
-    store: &mut StoreOf<'r, T, A, S>,
+    store: &mut StoreOf<'r, T, C, A, S>,
     twin: &Twin,
     least: usize,
 ) -> Result<usize, Fail> {
@@ -118,10 +138,16 @@ fn take_version_at_last<'r, T: SealRows<A> + Drop, A: Allocator + Copy, S: Store
 }
 
 /// A publish that is refused in turn. In each second round a version is taken first, which publishes too, but for receipts.
-fn assert_publish_refused<'r, T: SealRows<A> + Drop, A: Allocator + Copy, S: StoreName>(
+fn assert_publish_refused<
+    'r,
+    T: SealRows<A> + Drop,
+    A: Allocator + Copy,
+    S: StoreName,
+    C: VersionCopies<Version<'r, A, S>, S> + Drop,
+>(
     rt: &(impl Abort + AllocGlobal + Wait),
     heap: &LocalHeap,
-    store: &mut StoreOf<'r, T, A, S>,
+    store: &mut StoreOf<'r, T, C, A, S>,
     twin: &mut Twin,
     number: u64,
     least: usize,
@@ -137,10 +163,16 @@ fn assert_publish_refused<'r, T: SealRows<A> + Drop, A: Allocator + Copy, S: Sto
 }
 
 /// Batches, a pulse and a publish, each refused in turn.
-fn assert_round_refused<'r, T: SealRows<A> + Drop, A: Allocator + Copy, S: StoreName>(
+fn assert_round_refused<
+    'r,
+    T: SealRows<A> + Drop,
+    A: Allocator + Copy,
+    S: StoreName,
+    C: VersionCopies<Version<'r, A, S>, S> + Drop,
+>(
     rt: &(impl Abort + AllocGlobal + Wait),
     heap: &LocalHeap,
-    store: &mut StoreOf<'r, T, A, S>,
+    store: &mut StoreOf<'r, T, C, A, S>,
     share: &mut Share<S>,
     twin: &mut Twin,
     number: u64,
@@ -164,11 +196,17 @@ fn assert_round_refused<'r, T: SealRows<A> + Drop, A: Allocator + Copy, S: Store
 }
 
 /// Four rounds of calls, each refused in turn.
-pub fn assert_refused_in_turn<'r, T: SealRows<A> + Drop, A: Allocator + Copy, S: StoreName>(
+pub fn assert_refused_in_turn<
+    'r,
+    T: SealRows<A> + Drop,
+    A: Allocator + Copy,
+    S: StoreName,
+    C: VersionCopies<Version<'r, A, S>, S> + Drop,
+>(
     rt: &(impl Abort + AllocGlobal + Wait),
     alloc: A,
     heap: &LocalHeap,
-    store: &mut StoreOf<'r, T, A, S>,
+    store: &mut StoreOf<'r, T, C, A, S>,
     shares: &mut [Share<S>],
 ) -> Result<(), Fail>
     requires { length shares.old ≡ 64 }

@@ -7,14 +7,21 @@ use std::alloc::Allocator;
 use std::process::Abort;
 use std::sync::Wait;
 use std::test::Fail;
+use tf_query::Version;
 use tf_rows::SealRows;
-use tf_store::{Share, StoreName, StoreOf};
+use tf_store::{Share, StoreName, StoreOf, VersionCopies};
 
 /// The first of 64 shares stores four accounts, and then each a transfer.
-pub fn assert_each_share_counts<'r, T: SealRows<A> + Drop, A: Allocator + Copy, S: StoreName>(
+pub fn assert_each_share_counts<
+    'r,
+    T: SealRows<A> + Drop,
+    A: Allocator + Copy,
+    S: StoreName,
+    C: VersionCopies<Version<'r, A, S>, S> + Drop,
+>(
     rt: &(impl Abort + AllocGlobal + Wait),
     alloc: A,
-    store: &mut StoreOf<'r, T, A, S>,
+    store: &mut StoreOf<'r, T, C, A, S>,
     shares: &mut [Share<S>],
 ) -> Result<(), Fail>
     requires { length shares.old ≡ 64 }

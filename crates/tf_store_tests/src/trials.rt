@@ -9,6 +9,7 @@ use crate::limits::{assert_18_are_published, assert_18_are_refused};
 use crate::merges::assert_rows_are_merged;
 use crate::opening::try_out;
 use crate::pulses::assert_pulses_are_counted;
+use crate::readers::{assert_reader_keeps, assert_readers_follow, assert_worked_readers};
 use crate::receipts::assert_receipts_are_handed_out;
 use crate::refusals::assert_refused_in_turn;
 use crate::shares::assert_each_share_counts;
@@ -19,8 +20,10 @@ use std::process::Abort;
 use std::sync::Wait;
 use std::test::Fail;
 use tf_manifest::Pushes;
+use tf_query::Version;
+use tf_readers::{Publishable, Reader};
 use tf_rows::SealRows;
-use tf_store::{Share, StoreName, StoreOf};
+use tf_store::{Share, StoreName, StoreOf, VersionCopies};
 
 /// What is tried of an empty store with 64 shares.
 #[derive(Clone, Copy)]
@@ -55,6 +58,12 @@ pub enum Trial {
     Dropped(usize),
     /// Random commands.
     Random(u64),
+    /// Receipts and two readers of a worked example.
+    Worked,
+    /// So many readers follow a store.
+    Readers(u32),
+    /// A reader keeps a version while the store goes on.
+    Kept,
 }
 
 impl Trial {
@@ -68,20 +77,36 @@ impl Trial {
         }
     }
 
+    /// How many readers the store has.
+    pub fn readers(self) -> u32 {
+        match self {
+            Trial::Readers(count) => count,
+            Trial::Worked => 2,
+            _ => 1,
+        }
+    }
+
     /// Whether the store's heap has no byte left when it is opened.
     pub fn lacks_memory(self) -> bool {
         matches!(self, Trial::Unopened)
     }
 
     /// Runs the trial on a store that lies on a heap.
-    pub fn run<'r, T: SealRows<A> + Drop, A: Allocator + Copy, S: StoreName>(
+    pub fn run<'r, T, A, S, V, C>(
         self,
         rt: &(impl Abort + AllocGlobal + Wait),
         alloc: A,
         heap: &LocalHeap,
-        store: &mut StoreOf<'r, T, A, S>,
+        store: &mut StoreOf<'r, T, C, A, S>,
         shares: &mut [Share<S>],
+        readers: &mut [Reader<V, A, S>],
     ) -> Result<(), Fail>
+    where
+        T: SealRows<A> + Drop,
+        V: Publishable + Drop,
+        C: VersionCopies<Version<'r, A, S>, S> + Drop,
+        A: Allocator + Copy,
+        S: StoreName,
         requires { length shares.old ≡ 64 }
         ensures { length shares.new ≡ 64 }
     {
@@ -101,6 +126,14 @@ impl Trial {
             Trial::Refusals => assert_refused_in_turn(rt, alloc, heap, store, shares),
             Trial::Dropped(room) => drop_after_calls(rt, alloc, heap, store, shares, room),
             Trial::Random(seed) => assert_random_alike(rt, alloc, store, shares, seed),
+            Trial::Worked => assert_worked_readers(rt, store, &mut shares[0], readers),
+            Trial::Readers(count) => {
+                assert_readers_follow(rt, alloc, store, shares, readers, count)
+            }
+            Trial::Kept => match readers.first_mut() {
+                Some(reader) => assert_reader_keeps(rt, alloc, heap, store, shares, reader),
+                None => Err(Fail::new("no reader")),
+            },
         }
     }
 }
@@ -184,4 +217,26 @@ fn a_store_answers_random_commands_as_the_plain_ledger_does(rt: HostRuntime) -> 
         try_out(&rt, Trial::Random(seed))?;
     }
     Ok(())
+}
+
+#[test]
+fn two_readers_of_a_worked_example_see_what_was_published(rt: HostRuntime) -> Result<(), Fail> {
+    try_out(&rt, Trial::Worked)
+}
+
+#[test]
+fn two_readers_answer_as_the_plain_ledger_does(rt: HostRuntime) -> Result<(), Fail> {
+    try_out(&rt, Trial::Readers(2))
+}
+
+#[test]
+fn all_of_64_readers_are_given_and_see_each_publish(rt: HostRuntime) -> Result<(), Fail> {
+    try_out(&rt, Trial::Readers(64))
+}
+
+#[test]
+fn a_reader_keeps_its_version_whatever_is_published_and_merged(
+    rt: HostRuntime,
+) -> Result<(), Fail> {
+    try_out(&rt, Trial::Kept)
 }

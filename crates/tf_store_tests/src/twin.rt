@@ -9,10 +9,11 @@ use std::process::Abort;
 use std::sync::Wait;
 use std::test::Fail;
 use tf_journal::Ledger;
+use tf_query::Version;
 use tf_records::Reply;
 use tf_rows::SealRows;
 use tf_script::Command;
-use tf_store::{Events, Receipt, Share, StoreName, StoreOf};
+use tf_store::{Events, Receipt, Share, StoreName, StoreOf, VersionCopies};
 
 /// A batch whose receipt waits, as the plain ledger ran it.
 #[derive(Drop)]
@@ -45,10 +46,16 @@ impl Twin {
     }
 
     /// Runs a batch or a pulse on both, which answer alike and are alike then.
-    pub fn run<'r, T: SealRows<A> + Drop, A: Allocator + Copy, S: StoreName>(
+    pub fn run<
+        'r,
+        T: SealRows<A> + Drop,
+        A: Allocator + Copy,
+        S: StoreName,
+        C: VersionCopies<Version<'r, A, S>, S> + Drop,
+    >(
         &mut self,
         rt: &(impl Abort + AllocGlobal),
-        store: &mut StoreOf<'r, T, A, S>,
+        store: &mut StoreOf<'r, T, C, A, S>,
         share: &mut Share<S>,
         command: &Command<Global>,
     ) -> Result<(), Fail> {
@@ -57,10 +64,16 @@ impl Twin {
     }
 
     /// Runs a batch or a pulse that the store ran, with the same outcome.
-    pub fn follow<'r, T: SealRows<A> + Drop, A: Allocator + Copy, S: StoreName>(
+    pub fn follow<
+        'r,
+        T: SealRows<A> + Drop,
+        A: Allocator + Copy,
+        S: StoreName,
+        C: VersionCopies<Version<'r, A, S>, S> + Drop,
+    >(
         &mut self,
         rt: &(impl Abort + AllocGlobal),
-        store: &StoreOf<'r, T, A, S>,
+        store: &StoreOf<'r, T, C, A, S>,
         outcome: &Outcome<A>,
         command: &Command<Global>,
     ) -> Result<(), Fail> {
@@ -79,10 +92,16 @@ impl Twin {
     }
 
     /// Publishes the store. Tells how many receipts it hands out.
-    pub fn publish<'r, T: SealRows<A> + Drop, A: Allocator + Copy, S: StoreName>(
+    pub fn publish<
+        'r,
+        T: SealRows<A> + Drop,
+        A: Allocator + Copy,
+        S: StoreName,
+        C: VersionCopies<Version<'r, A, S>, S> + Drop,
+    >(
         &mut self,
         rt: &(impl Abort + Wait),
-        store: &mut StoreOf<'r, T, A, S>,
+        store: &mut StoreOf<'r, T, C, A, S>,
     ) -> Result<usize, Fail> {
         let receipts = store.publish(rt)?;
         self.assert_receipts(rt, receipts.as_slice());
@@ -106,11 +125,17 @@ impl Twin {
     }
 
     /// Runs a command on both. The store publishes or merges all rows where it says so.
-    fn run_command<'r, T: SealRows<A> + Drop, A: Allocator + Copy, S: StoreName>(
+    fn run_command<
+        'r,
+        T: SealRows<A> + Drop,
+        A: Allocator + Copy,
+        S: StoreName,
+        C: VersionCopies<Version<'r, A, S>, S> + Drop,
+    >(
         &mut self,
         rt: &(impl Abort + AllocGlobal + Wait),
         alloc: A,
-        store: &mut StoreOf<'r, T, A, S>,
+        store: &mut StoreOf<'r, T, C, A, S>,
         share: &mut Share<S>,
         command: &Command<Global>,
     ) -> Result<(), Fail> {
@@ -128,11 +153,17 @@ impl Twin {
     }
 
     /// Runs all commands on both, with the first two shares in turn.
-    pub fn run_all<'r, T: SealRows<A> + Drop, A: Allocator + Copy, S: StoreName>(
+    pub fn run_all<
+        'r,
+        T: SealRows<A> + Drop,
+        A: Allocator + Copy,
+        S: StoreName,
+        C: VersionCopies<Version<'r, A, S>, S> + Drop,
+    >(
         &mut self,
         rt: &(impl Abort + AllocGlobal + Wait),
         alloc: A,
-        store: &mut StoreOf<'r, T, A, S>,
+        store: &mut StoreOf<'r, T, C, A, S>,
         shares: &mut [Share<S>],
         commands: &[Command<Global>],
     ) -> Result<(), Fail>

@@ -9,15 +9,22 @@ use std::alloc::Allocator;
 use std::process::Abort;
 use std::sync::Wait;
 use std::test::Fail;
+use tf_query::Version;
 use tf_rows::SealRows;
 use tf_script::Command;
-use tf_store::{Share, StoreName, StoreOf};
+use tf_store::{Share, StoreName, StoreOf, VersionCopies};
 
 /// A version is taken, and stays what it was through five rounds and a compaction. Receipts wait for a publish.
-pub fn assert_version_stays<'r, T: SealRows<A> + Drop, A: Allocator + Copy, S: StoreName>(
+pub fn assert_version_stays<
+    'r,
+    T: SealRows<A> + Drop,
+    A: Allocator + Copy,
+    S: StoreName,
+    C: VersionCopies<Version<'r, A, S>, S> + Drop,
+>(
     rt: &(impl Abort + AllocGlobal + Wait),
     alloc: A,
-    store: &mut StoreOf<'r, T, A, S>,
+    store: &mut StoreOf<'r, T, C, A, S>,
     shares: &mut [Share<S>],
 ) -> Result<(), Fail>
     requires { length shares.old ≡ 64 }
@@ -44,10 +51,16 @@ pub fn assert_version_stays<'r, T: SealRows<A> + Drop, A: Allocator + Copy, S: S
 
 /// A store and the plain ledger answer random commands alike, with publishes and compactions among them, and so does a
 /// version at last.
-pub fn assert_random_alike<'r, T: SealRows<A> + Drop, A: Allocator + Copy, S: StoreName>(
+pub fn assert_random_alike<
+    'r,
+    T: SealRows<A> + Drop,
+    A: Allocator + Copy,
+    S: StoreName,
+    C: VersionCopies<Version<'r, A, S>, S> + Drop,
+>(
     rt: &(impl Abort + AllocGlobal + Wait),
     alloc: A,
-    store: &mut StoreOf<'r, T, A, S>,
+    store: &mut StoreOf<'r, T, C, A, S>,
     shares: &mut [Share<S>],
     seed: u64,
 ) -> Result<(), Fail>

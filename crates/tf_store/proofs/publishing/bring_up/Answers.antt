@@ -10,9 +10,9 @@ returns-in-Err-clause-publish g c =
     let old : View = c.args.forest.now in
     let mid : View = c.prepare.new.self in
     let lost = c.prepare.ensures.waits in
-    let within : c.args.shown ≤ length old.journal = omega (arith, c.requires.shown, no_longer c.args.front.now old.journal c.requires.begins) in
-    let seen : old.waiting ≡ 0 → c.args.shown ≡ length mid.journal = λ none.
-    all_shown old c.args.shown c.manifest_shows_one_journal.ensures.one within c.requires.lawful.sound c.requires.sound.sound c.requires.published (c.facts_of_rows.ensures.alone none)
+    let within : c.args.public.now.shown ≤ length old.journal = omega (arith, c.requires.public.shown, no_longer c.args.public.now.front old.journal c.requires.public.begins) in
+    let seen : old.waiting ≡ 0 → c.args.public.now.shown ≡ length mid.journal = λ none.
+    all_shown old c.args.public.now.shown c.manifest_shows_one_journal.ensures.one within c.requires.lawful.sound c.requires.public.sound.sound c.requires.public.published (c.facts_of_rows.ensures.alone none)
     ∙ ap (λ (v : View). length v.journal) (sym lost.is) in
     refused_publish old mid c.in-Err.refusal lost (λ none. false≢true (c.in-Err.ensures.idle (seen none))) (λ bad. absurd (memory_not_full c.in-Err.refusal c.in-Err.ensures.refusal bad))
     (λ other. (c.in-Err.ensures.refusal, c.in_ok-prepared.ensures.fits))
@@ -32,4 +32,4 @@ returns-in-Ok-clause-publish g c =
       still = c.prepare.ensures.still;
       equal = c.in_ok-prepared.ensures.equal;
     } in
-    settled_publish old mid c.settle.new.self c.in_ok-prepared.prepared c.len.result prepared c.facts.ensures.waits c.settle.ensures
+    settled_publish old mid c.settle.new.self c.in_ok-prepared.prepared c.in-Ok.field-0 prepared c.facts.ensures.waits c.settle.ensures

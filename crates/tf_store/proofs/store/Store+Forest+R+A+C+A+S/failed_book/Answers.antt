@@ -2,7 +2,7 @@ use Rattle.std.proofs.Common.{◌≡◌, ◌-◌, ap, subst, arith}
 use Rattle.tf_store.specs.Book.{failed_of}
 use Rattle.tf_store.specs.Store.{View}
 use Rattle.tf_store.proofs.Counting.{book_and_failed}
-use Rattle.tf_store.proofs.store.Store+Forest+R+A+A+S.failed_book.Goals as goal
+use Rattle.tf_store.proofs.store.Store+Forest+R+A+C+A+S.failed_book.Goals as goal
 
 pub overflow_sub-result : goal.overflow_sub-result
 overflow_sub-result g c =

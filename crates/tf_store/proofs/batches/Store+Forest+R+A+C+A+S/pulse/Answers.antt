@@ -1,7 +1,7 @@
 use Rattle.std.proofs.Common.{ap, ◌∙◌}
 use Rattle.tf_store.specs.Store.{View}
 use Rattle.tf_store.proofs.Kept.{same_receipts}
-use Rattle.tf_store.proofs.batches.Store+Forest+R+A+A+S.pulse.Goals as goal
+use Rattle.tf_store.proofs.batches.Store+Forest+R+A+C+A+S.pulse.Goals as goal
 
 pub returns-clause-waiting : goal.returns-clause-waiting
 returns-clause-waiting g c =

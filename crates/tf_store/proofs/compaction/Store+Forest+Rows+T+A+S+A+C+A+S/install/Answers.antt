@@ -2,7 +2,7 @@ use Rattle.std.proofs.Common.{subst, IfErr}
 use Rattle.tf_manifest.specs.Install.{OnStale}
 use Rattle.tf_manifest.specs.Jobs.{StandsIn}
 use Rattle.tf_store.specs.Store.{View}
-use Rattle.tf_store.proofs.compaction.Store+Forest+Rows+T+A+S+A+A+S.install.Goals as goal
+use Rattle.tf_store.proofs.compaction.Store+Forest+Rows+T+A+S+A+C+A+S.install.Goals as goal
 
 pub returns-clause-stale : goal.returns-clause-stale
 returns-clause-stale g c =

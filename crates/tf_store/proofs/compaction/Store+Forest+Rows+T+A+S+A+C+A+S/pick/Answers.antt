@@ -1,7 +1,7 @@
 use Rattle.std.proofs.Common.{◌≡◌, subst, IsSome}
 use Rattle.tf_manifest.specs.View.{references_in}
 use Rattle.tf_store.specs.Store.{View}
-use Rattle.tf_store.proofs.compaction.Store+Forest+Rows+T+A+S+A+A+S.pick.Goals as goal
+use Rattle.tf_store.proofs.compaction.Store+Forest+Rows+T+A+S+A+C+A+S.pick.Goals as goal
 
 pub returns-clause-full : goal.returns-clause-full
 returns-clause-full g c =

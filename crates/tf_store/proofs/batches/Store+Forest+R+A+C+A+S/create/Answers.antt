@@ -5,7 +5,7 @@ use Rattle.tf_store.specs.Receipt.{receipt_of}
 use Rattle.tf_store.specs.Store.{View}
 use Rattle.tf_store.proofs.Runs.{facts}
 use Rattle.tf_store.proofs.Kept.{all_wait, receipts_wait, run_kept, store_grows}
-use Rattle.tf_store.proofs.batches.Store+Forest+R+A+A+S.create.Goals as goal
+use Rattle.tf_store.proofs.batches.Store+Forest+R+A+C+A+S.create.Goals as goal
 
 pub invariant_of-self : goal.invariant_of-self
 invariant_of-self g c =
@@ -14,7 +14,7 @@ invariant_of-self g c =
     let store = c.self.invariant in
     let ran = c.run_batch.ensures in
     let f = facts (λ s. s.journal) (λ s. s.clock) (λ s. s.kept) old new (batch_of c.args.events) c.args.now c.run_batch.result ran.run in
-    store_grows old new c.self.inside.tally c.run_batch.new.tally c.self.inside.front c.self.inside.shown c.self.inside.queue.waiting c.run_batch.new.queue.waiting
+    store_grows old new c.self.inside.tally c.run_batch.new.tally c.self.inside.public c.self.inside.queue.waiting c.run_batch.new.queue.waiting
     store f.lawful (run_kept (λ s. s.journal) (λ s. s.clock) (λ s. s.kept) old new (batch_of c.args.events) c.args.now c.run_batch.result ran.run store.kept)
     ran.rest ran.begins ran.counted
     (all_wait (λ s. s.journal) (λ s. s.clock) (λ s. s.kept) old new (batch_of c.args.events) c.args.now c.run_batch.result ran.run ran.begins
