@@ -6,6 +6,7 @@ use std::io::Write;
 use std::process::Abort;
 use std::test::Fail;
 use tf_main::{Ending, RunFault, report, run_script_plainly};
+use tf_served::run_script;
 
 const SCRIPT: &str = "# Two accounts and one transfer.
 accounts 1000
@@ -229,30 +230,58 @@ fn writer_that_takes_nothing_ends_the_run(rt: HostRuntime) {
     }
 }
 
+/// What was written is the whole answer, or the lines of some commands, from the first one on, where memory was refused.
+/// Tells whether it is the whole answer, and whether memory was refused after some lines.
+fn assert_lines_whole(
+    rt: &(impl Abort + AllocGlobal),
+    outcome: Result<(), RunFault>,
+    written: &[u8],
+) -> (bool, bool) {
+    match outcome {
+        Ok(()) => {
+            assert!(rt; written == ANSWER.as_bytes());
+            (true, false)
+        }
+        Err(fault) => {
+            assert_reported(rt, &Ending::Fault(fault), "no memory\n", 2);
+            assert!(rt;
+                written.is_empty()
+                    || written == AFTER_ACCOUNTS.as_bytes()
+                    || written == AFTER_TRANSFERS.as_bytes()
+            );
+            (false, !written.is_empty())
+        }
+    }
+}
+
 #[test]
 fn want_of_memory_leaves_whole_answers(rt: HostRuntime) -> Result<(), Fail> {
     let (mut answered, mut kept) = (false, false);
     for size in 1..64usize {
         let heap = LocalHeap::new(rt.alloc(), size * 64)?;
         let mut out = Vec::new(rt.alloc());
-        match run_script_plainly(&heap, SCRIPT.as_bytes(), &mut out) {
-            Ok(()) => {
-                assert!(rt; out.as_slice() == ANSWER.as_bytes());
-                answered = true;
-            }
-            Err(fault) => {
-                assert_reported(&rt, &Ending::Fault(fault), "no memory\n", 2);
-                let written = out.as_slice();
-                kept |= !written.is_empty();
-                assert!(rt;
-                    written.is_empty()
-                        || written == AFTER_ACCOUNTS.as_bytes()
-                        || written == AFTER_TRANSFERS.as_bytes()
-                );
-            }
-        }
+        let outcome = run_script_plainly(&heap, SCRIPT.as_bytes(), &mut out);
+        let (whole, some) = assert_lines_whole(&rt, outcome, out.as_slice());
+        answered |= whole;
+        kept |= some;
     }
     // Some heap held the whole run, and some lacked memory only for a later command.
+    assert!(rt; answered && kept);
+    Ok(())
+}
+
+#[test]
+fn want_of_memory_leaves_whole_answers_of_a_store(rt: HostRuntime) -> Result<(), Fail> {
+    let (mut answered, mut kept) = (false, false);
+    for size in 1..96usize {
+        let heap = LocalHeap::new(rt.alloc(), size * 8192)?;
+        let mut out = Vec::new(rt.alloc());
+        let outcome = run_script(&rt, &heap, SCRIPT.as_bytes(), &mut out);
+        let (whole, some) = assert_lines_whole(&rt, outcome, out.as_slice());
+        answered |= whole;
+        kept |= some;
+        assert_eq!(rt; heap.used(), 0);
+    }
     assert!(rt; answered && kept);
     Ok(())
 }

@@ -1,4 +1,7 @@
-//! Scripts that run to their end, and scripts with a fault.
+//! Scripts that run to their end, and scripts with a fault, over the store and over the plain ledger.
+
+mod lines;
+mod strewn;
 
 use crate::rows::Row;
 use crate::rows::batches::BATCHES;
@@ -7,15 +10,37 @@ use crate::rows::pending::PENDING;
 use crate::rows::queries::QUERIES;
 use crate::rows::recipes::RECIPES;
 use std::process::Abort;
+use std::sync::Wait;
 use std::test::Fail;
+use strewn::assert_scripts_alike;
 use tf_main::{RunFault, run_script_plainly};
+use tf_served::run_script;
 
-/// Runs each script over an empty ledger and compares what it writes.
-fn assert_answered(rt: &(impl Abort + AllocGlobal), rows: &[Row]) -> Result<(), Fail> {
+/// A script writes this answer, over an empty store as over an empty plain ledger.
+fn assert_written(
+    rt: &(impl Abort + AllocGlobal + Wait),
+    script: &str,
+    answer: &str,
+) -> Result<(), Fail> {
+    let mut out = Vec::new(rt.alloc());
+    run_script(rt, rt.alloc(), script.as_bytes(), &mut out)?;
+    assert!(rt;
+        out.as_slice() == answer.as_bytes(),
+        "over a store: {script}"
+    );
+    let mut out = Vec::new(rt.alloc());
+    run_script_plainly(rt.alloc(), script.as_bytes(), &mut out)?;
+    assert!(rt;
+        out.as_slice() == answer.as_bytes(),
+        "over the plain ledger: {script}"
+    );
+    Ok(())
+}
+
+/// Runs each script and compares what it writes.
+fn assert_answered(rt: &(impl Abort + AllocGlobal + Wait), rows: &[Row]) -> Result<(), Fail> {
     for row in rows {
-        let mut out = Vec::new(rt.alloc());
-        run_script_plainly(rt.alloc(), row.script.as_bytes(), &mut out)?;
-        assert!(rt; out.as_slice() == row.output.as_bytes(), "{}", row.name);
+        assert_written(rt, row.script, row.output)?;
     }
     Ok(())
 }
@@ -46,7 +71,7 @@ fn recipes_print_their_output(rt: HostRuntime) -> Result<(), Fail> {
 }
 
 #[test]
-fn small_scripts_print_their_output(rt: HostRuntime) {
+fn small_scripts_print_their_output(rt: HostRuntime) -> Result<(), Fail> {
     let table = [
         ("", ""),
         ("accounts 5\nend\n", "clock 5\n"),
@@ -79,11 +104,23 @@ fn small_scripts_print_their_output(rt: HostRuntime) {
         ),
     ];
     for (script, answer) in table {
-        let mut out = Vec::new(rt.alloc());
-        let outcome = run_script_plainly(rt.alloc(), script.as_bytes(), &mut out);
-        assert!(rt; outcome.is_ok(), "{script}");
-        assert!(rt; out.as_slice() == answer.as_bytes(), "{script}");
+        assert_written(&rt, script, answer)?;
     }
+    Ok(())
+}
+
+/// A run ended at the script's first fault, and wrote nothing.
+fn assert_fault(
+    rt: &(impl Abort + AllocGlobal),
+    outcome: &Result<(), RunFault>,
+    written: &[u8],
+    place: (u64, u64),
+) {
+    let Err(RunFault::BadLine { line, column }) = outcome else {
+        panic!(rt; "no fault, for one in line {}", place.0);
+    };
+    assert_eq!(rt; (*line, *column), place);
+    assert!(rt; written.is_empty());
 }
 
 #[test]
@@ -104,13 +141,16 @@ fn a_script_with_a_fault_runs_nothing(rt: HostRuntime) {
         ("lookup_accounts 1 raw\n", 1, 19),
         ("accounts 0\nend\nend\n", 3, 1),
     ];
-    for (script, at_line, at_column) in scripts {
+    for (script, line, column) in scripts {
         let mut out = Vec::new(rt.alloc());
+        let outcome = run_script(&rt, rt.alloc(), script.as_bytes(), &mut out);
+        assert_fault(&rt, &outcome, out.as_slice(), (line, column));
         let outcome = run_script_plainly(rt.alloc(), script.as_bytes(), &mut out);
-        let Err(RunFault::BadLine { line, column }) = outcome else {
-            panic!(rt; "no fault in {script}");
-        };
-        assert_eq!(rt; (line, column), (at_line, at_column), "{script}");
-        assert!(rt; out.is_empty(), "{script}");
+        assert_fault(&rt, &outcome, out.as_slice(), (line, column));
     }
+}
+
+#[test]
+fn random_scripts_print_the_same_over_both(rt: HostRuntime) -> Result<(), Fail> {
+    assert_scripts_alike(&rt)
 }

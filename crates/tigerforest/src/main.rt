@@ -1,11 +1,13 @@
-//! The program: `tigerforest run SCRIPT` runs a script over an empty ledger and prints its answer.
+//! The program: `tigerforest run SCRIPT` runs a script over an empty store and prints its answer.
 #![tactic(auto)]
 
 use std::io::{BufWriter, ErrorKind, Write};
 use std::process::ExitCode;
 use std::rt::{Env, Files};
+use std::sync::Wait;
 use std::{env, fs, io};
-use tf_main::{Ending, RunFault, report, run_script_plainly};
+use tf_main::{Ending, RunFault, report};
+use tf_served::run_script;
 
 fn main(rt: HostRuntime) -> ExitCode {
     let ending = run(&rt);
@@ -13,7 +15,7 @@ fn main(rt: HostRuntime) -> ExitCode {
 }
 
 /// Does what the arguments ask for.
-fn run<R: Env + Files + Print + AllocGlobal>(rt: &R) -> Ending {
+fn run<R: Env + Files + Print + AllocGlobal + Wait>(rt: &R) -> Ending {
     let mut args = match env::args(rt) {
         Ok(args) => args,
         Err(error) => return ending_unless_no_memory(error, Ending::Usage),
@@ -32,7 +34,7 @@ fn run<R: Env + Files + Print + AllocGlobal>(rt: &R) -> Ending {
 }
 
 /// Runs the script in the file of this name.
-fn run_file<R: Files + Print + AllocGlobal>(rt: &R, name: String) -> Ending {
+fn run_file<R: Files + Print + AllocGlobal + Wait>(rt: &R, name: String) -> Ending {
     let script = match fs::read(rt, name.as_str()) {
         Ok(script) => script,
         Err(error) => return ending_unless_no_memory(error, Ending::CannotRead(name)),
@@ -40,7 +42,7 @@ fn run_file<R: Files + Print + AllocGlobal>(rt: &R, name: String) -> Ending {
     let Ok(mut out) = BufWriter::new(rt.alloc(), io::writer(rt)) else {
         return Ending::Fault(RunFault::NoMemory);
     };
-    let outcome = run_script_plainly(rt.alloc(), script.as_slice(), &mut out);
+    let outcome = run_script(rt, rt.alloc(), script.as_slice(), &mut out);
     let flushed = out.flush().map_err(RunFault::CannotWrite);
     match outcome.and(flushed) {
         Ok(()) => Ending::Done,

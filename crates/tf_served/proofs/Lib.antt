@@ -1,0 +1,5 @@
+mod Ending
+mod Merging
+mod Needed
+mod Serving
+mod Views

@@ -1,0 +1,100 @@
+//! Runs commands over a store.
+ghost use Rattle.std.specs.Prelude.{◌≡◌, [], true, OnOk, IfErr};
+ghost use Rattle.tf_journal.specs.Lawful.{IsLawfulAt};
+ghost use Rattle.tf_main.specs.Script.{HasAnswered, StopsRunning};
+ghost use Rattle.tf_script.specs.Command as command;
+ghost use Rattle.tf_script.specs.CommandViews.{command_view, commands_of};
+ghost use Rattle.tf_served.specs.Served.{IsCommandServed};
+
+use crate::served::Served;
+use std::alloc::Allocator;
+use std::io::Write;
+use std::sync::Wait;
+use tf_forest::Forest;
+use tf_main::{RunFault, write_batch, write_compaction, write_found, write_publish, write_pulsed};
+use tf_publish::Rows;
+use tf_query::Version;
+use tf_rows::SealRows;
+use tf_script::{Command, Query};
+use tf_store::{StoreName, VersionCopies};
+
+impl<'s, 'r, T, A, S, C, W> Served<'s, Forest<Rows<'r, T, A, S>, A>, A, S, C, W>
+where
+    T: SealRows<A> + Drop,
+    A: Allocator + Copy,
+    S: StoreName,
+    C: VersionCopies<Version<'r, A, S>, S> + Drop,
+    W: Wait,
+{
+    /// Runs commands by a store that nothing was stored in, one after another up to the first fault, and writes what they
+    /// print.
+    ///
+    /// Its faults are those of `run_commands` of `tf_main`: `RunFault::CannotWrite` where the writer failed, with a part of the
+    /// answer written from its first byte on, and `RunFault::NoMemory` where a growth was refused, with the output of the commands
+    /// before one that isn't refused itself.
+    pub(crate) fn run_commands<B: Allocator, O: Write>(
+        &mut self,
+        commands: &[Command<B>],
+        out: &mut O,
+    ) -> Result<(), RunFault>
+        requires journal { self.old.store.now.forest.journal ≡ [] }
+        requires clock { self.old.store.now.forest.clock ≡ 0 }
+        requires published { self.old.store.now.forest.sealed.counts.publishes ≡ 0 }
+        ensures answered { OnOk result (HasAnswered true (commands_of commands.now) (O.contents out.old) (O.contents out.new)) }
+        ensures fault { IfErr result (StopsRunning true (commands_of commands.now) (O.contents out.old) (O.contents out.new)) }
+    {
+        for command in commands {
+            self.run_command(command, out)?;
+        }
+        Ok(())
+    }
+
+    /// Runs one command and writes what it prints.
+    fn run_command<B: Allocator, O: Write>(
+        &mut self,
+        command: &Command<B>,
+        out: &mut O,
+    ) -> Result<(), RunFault>
+        requires { IsLawfulAt self.old.store.now.forest.clock self.old.store.now.forest.journal }
+        ensures { IsCommandServed self.old.store.now.forest self.new.store.now.forest
+            (O.contents out.old) (O.contents out.new) (command_view command.now) result }
+    {
+        match command {
+            Command::Accounts { now, events } => {
+                let outcome = self.create_accounts(events.as_slice(), *now);
+                write_batch(&outcome, self.clock(), out)
+            }
+            Command::Transfers { now, events } => {
+                let outcome = self.create_transfers(events.as_slice(), *now);
+                write_batch(&outcome, self.clock(), out)
+            }
+            Command::Pulse { now, max } => {
+                let outcome = self.pulse(*now, *max);
+                write_pulsed(outcome, self.clock(), out)
+            }
+            Command::Publish => write_publish(self.publish(), out),
+            Command::Compact => write_compaction(self.compact(), out),
+            Command::Query(query) => self.run_query(query, out),
+            Command::LookupAccounts(ids) => write_found(&self.lookup_accounts(ids.as_slice()), out),
+            Command::LookupTransfers(ids) => {
+                write_found(&self.lookup_transfers(ids.as_slice()), out)
+            }
+        }
+    }
+
+    /// Answers one query and writes its rows.
+    fn run_query<O: Write>(&mut self, query: &Query, out: &mut O) -> Result<(), RunFault>
+        requires { IsLawfulAt self.old.store.now.forest.clock self.old.store.now.forest.journal }
+        ensures { IsCommandServed self.old.store.now.forest self.new.store.now.forest
+            (O.contents out.old) (O.contents out.new) (command.query query.now) result }
+    {
+        match query {
+            Query::AccountTransfers(filter) => {
+                write_found(&self.get_account_transfers(filter), out)
+            }
+            Query::AccountBalances(filter) => write_found(&self.get_account_balances(filter), out),
+            Query::Accounts(filter) => write_found(&self.query_accounts(filter), out),
+            Query::Transfers(filter) => write_found(&self.query_transfers(filter), out),
+        }
+    }
+}
