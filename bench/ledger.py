@@ -54,8 +54,9 @@ SETTLED = (
     "merges it in the writer's thread: such rows could be merged before, by others."
 )
 SEARCHES = (
-    "each table of a row is searched by halving, some six reads from far memory a table, and a row has some 16 tables; the "
-    "place of each value's first row, kept beside the keys of a table, would make that two."
+    "by answers of both lengths some 2.8 microseconds of a query come before its first row, for places of 64 tables in each "
+    "prefix, boxes and two searches by halving; and a row costs a read of its record from far memory, after a look at the "
+    "least and the greatest keys of some 16 tables."
 )
 NEXT = {name: CHANGES for name, _ in INGEST}
 NEXT |= {name: SETTLED for name in ("pending_post", "pending_void")}
@@ -69,8 +70,8 @@ NEXT |= {
     "tested on the record that is fetched anyway.",
     "query_ledger_with_code": "both indexes are read whole: a field with few values could be tested on the record that is fetched "
     "anyway.",
-    "query_balances_200": "each row of history is found by a search of its own in some 16 tables, four fifths of the time: one walk "
-    "over the account's rows in each table would find all.",
+    "query_balances_200": "the balances of each transfer are found from where the last ones stand, after a look at the keys and the "
+    "spans of some 16 tables: one walk over the account's rows in each table would look at no span.",
     "look_up_random": "an id is searched by halving in the one table whose filter tells of it, and its record is read from far memory.",
 }
 HEAD = [

@@ -11,6 +11,7 @@ pub mod keys;
 pub mod ledger;
 pub mod pending;
 pub mod queries;
+pub mod script;
 
 use std::time::Instant;
 

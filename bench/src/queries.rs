@@ -25,7 +25,7 @@ pub const LONG: u32 = 200;
 /// Which part of all time a query asks for: one of so many.
 const TIMES: u64 = 100;
 
-const BOTH: u32 = AccountFilter::DEBITS | AccountFilter::CREDITS;
+pub const BOTH: u32 = AccountFilter::DEBITS | AccountFilter::CREDITS;
 
 /// The first transfers of any account.
 pub fn account_first(run: Run, limit: u32) -> Measured {
@@ -64,7 +64,7 @@ fn of_accounts(
 }
 
 /// A filter of one of so many accounts.
-fn of_account(numbers: &mut Generator, accounts: u64, limit: u32, flags: u32) -> AccountFilter {
+pub fn of_account(numbers: &mut Generator, accounts: u64, limit: u32, flags: u32) -> AccountFilter {
     AccountFilter {
         account_id: account_id(numbers.number() % accounts),
         limit,

@@ -3,7 +3,7 @@
 use plain::batches::{batch_lengths, Batches};
 use plain::events::{account_id, Ids, Transfers, ACCOUNTS, WITH_HISTORY};
 use plain::ledger::{Account, QueryFilter, BATCH_MAX};
-use plain::{ingest, pending, queries, Measured, Run};
+use plain::{ingest, pending, queries, script, Measured, Run};
 
 const RUN: Run = Run {
     count: 5_000,
@@ -85,4 +85,12 @@ fn queries_find_rows() {
         queries::look_up(RUN, Ids::Random),
     ];
     assert!(queries.iter().all(|measured| measured.checksum != 0));
+}
+
+#[test]
+fn a_script_asks_for_rows_after_each_batch() {
+    let answer = script::answer(&script::text(RUN));
+    assert!(answer.contains(&format!("clock {}\n", ACCOUNTS + RUN.count)));
+    assert_eq!(answer.matches("\nrows ").count(), 100);
+    assert!(answer.matches("transfer id=").count() > 50);
 }

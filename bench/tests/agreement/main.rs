@@ -1,13 +1,10 @@
 //! The ledger in plain Rust answers scripts as the proved one does.
 
-mod lines;
 mod random;
-mod records;
-mod script;
-mod values;
 mod worked;
 
 use plain::ledger::Outcome;
+use plain::script;
 use std::collections::BTreeSet;
 use std::fs;
 use std::path::Path;

@@ -1,9 +1,14 @@
 //! Scripts, run over an empty ledger. Scripts with a fault aren't served.
 
-use crate::lines;
-use crate::records::{from_fields, from_hex, Record};
-use crate::values::number;
-use plain::ledger::{Account, AccountFilter, Ledger, QueryFilter, Transfer};
+mod lines;
+mod records;
+mod text;
+mod values;
+
+use crate::ledger::{Account, AccountFilter, Ledger, QueryFilter, Transfer};
+use records::{from_fields, from_hex, Record};
+pub use text::text;
+use values::number;
 
 /// What a script prints.
 pub fn answer(script: &str) -> String {

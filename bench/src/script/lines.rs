@@ -1,6 +1,6 @@
 //! The lines that scripts print.
 
-use plain::ledger::{Account, AccountBalance, Failure, Refusal, Transfer};
+use crate::ledger::{Account, AccountBalance, Failure, Refusal, Transfer};
 use std::fmt::Write;
 
 /// The lines of a batch: each event that failed, and the clock.

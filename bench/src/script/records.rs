@@ -1,7 +1,7 @@
 //! Records as scripts spell them: field by field, or as the digits of their bytes.
 
-use crate::values::{flags, number, Bytes};
-use plain::ledger::{Account, AccountFilter, QueryFilter, Transfer};
+use super::values::{flags, number, Bytes};
+use crate::ledger::{Account, AccountFilter, QueryFilter, Transfer};
 
 /// A record that scripts spell.
 pub trait Record: Default {
