@@ -55,8 +55,7 @@ SETTLED = (
 )
 SEARCHES = (
     "by answers of both lengths some 2.8 microseconds of a query come before its first row, for places of 64 tables in each "
-    "prefix, boxes and two searches by halving; and a row costs a read of its record from far memory, after a look at the "
-    "least and the greatest keys of some 16 tables."
+    "prefix, boxes and two searches by halving; and a row costs a read of its record from far memory."
 )
 NEXT = {name: CHANGES for name, _ in INGEST}
 NEXT |= {name: SETTLED for name in ("pending_post", "pending_void")}
@@ -66,10 +65,8 @@ NEXT |= {
 }
 NEXT |= {name: SEARCHES for name, _ in QUERIES}
 NEXT |= {
-    "query_user_data_64_with_ledger": "the index of ledgers is sought for each row of the other: a field with few values could be "
-    "tested on the record that is fetched anyway.",
-    "query_ledger_with_code": "both indexes are read whole: a field with few values could be tested on the record that is fetched "
-    "anyway.",
+    "query_user_data_64_with_ledger": "each transfer with the value is read from far memory, to test its ledger.",
+    "query_ledger_with_code": "each transfer with the code is read from far memory, to test its ledger.",
     "query_balances_200": "the balances of each transfer are found from where the last ones stand, after a look at the keys and the "
     "spans of some 16 tables: one walk over the account's rows in each table would look at no span.",
     "look_up_random": "an id is searched by halving in the one table whose filter tells of it, and its record is read from far memory.",

@@ -1,5 +1,5 @@
 -- The first of the timestamps within bounds, each replaced by what is read there, are the answer of a filter.
-use Rattle.std.proofs.Common.{◌≡◌, ℕ, zero, suc, min, Bool, true, false, ◌&&◌, ◌||◌, cond, List, [], ◌∷◌, filter, map, take, reverse, Option, Some, refl, sym, ◌∙◌, ap, subst, inl, inr}
+use Rattle.std.proofs.Common.{◌≡◌, ℕ, zero, suc, min, Bool, true, false, ◌&&◌, ◌||◌, cond, List, [], ◌∷◌, filter, map, take, reverse, Option, Some, None, refl, sym, ◌∙◌, ap, subst, inl, inr}
 use Rattle.std.specs.Prelude.{◌==◌}
 use Rattle.std.specs.List.{cons_option, filter_map}
 use Rattle.std.proofs.lemmas.Bool.{eq-eqb, eqb-true}
@@ -56,6 +56,19 @@ module _ {X : Type 0} where
       ap (λ o. cons_option o (filter_map read (take n (map timestamp xs)))) (reads x (inl refl))
       ∙ ap (λ ys. row x ∷ ys) (read_each timestamp read row xs (λ y h. reads y (inr h)) n)
 
+  -- and those that pass, where no other is read
+  pass_each : (timestamp : X → ℕ) (read : ℕ → Option X) (p : X → Bool) (xs : List X) → ((x : X) → Has xs x → read (timestamp x) ≡ cond (p x) (Some x) None)
+      → filter_map read (map timestamp xs) ≡ filter p xs
+  pass_each timestamp read p [] reads = refl
+  pass_each timestamp read p (x ∷ xs) reads =
+      ap (λ o. cons_option o (filter_map read (map timestamp xs))) (reads x (inl refl))
+      ∙ step (p x) (pass_each timestamp read p xs (λ y h. reads y (inr h)))
+    where
+      step : (b : Bool) → filter_map read (map timestamp xs) ≡ filter p xs
+          → cons_option (cond b (Some x) None) (filter_map read (map timestamp xs)) ≡ cond b (x ∷ filter p xs) (filter p xs)
+      step true again = ap (λ ys. x ∷ ys) again
+      step false again = again
+
 module _ {X : Type 0} (timestamp : X → ℕ) where
   has_among : (records : List X) (x : X) → Has records x → is_among (timestamp x) (map timestamp records) ≡ true
   has_among [] x h = absurd h
@@ -107,6 +120,23 @@ module _ {X : Type 0} (timestamp : X → ℕ) where
         ∙ ap (λ ts. filter_map read (take n ts)) within_matches
         ∙ read_each timestamp read row (accepted_in d accepts records)
         (λ x h. let passed = has_passed accepts records x (has_directed d (filter accepts records) x h) in reads x passed.0 passed.1) n
+
+-- of the timestamps of the records that have what leads to them, those within the bounds give the records that pass the rest
+module _ {X : Type 0} (timestamp : X → ℕ) (records : List X) (dated : AreDated timestamp records) (d : Direction) (lead passes accepts : X → Bool) (within : ℕ → Bool)
+    (same : (x : X) → ((lead x && within (timestamp x)) && passes x) ≡ accepts x) where
+  abbrev leads : X → Bool
+  leads x = lead x && within (timestamp x)
+
+  pub passing_answered : (read : ℕ → Option X) → ((x : X) → Has records x → read (timestamp x) ≡ cond (passes x) (Some x) None)
+      → (left : List ℕ) → IsInOrder d left → ((t : ℕ) → is_among t left ≡ holds_at timestamp lead records t)
+      → filter_map read (filter within left) ≡ accepted_in d accepts records
+  passing_answered read reads left ordered members =
+      ap (λ ts. filter_map read (filter within ts)) (list_of_matches timestamp records dated d lead left ordered members)
+      ∙ ap (filter_map read) (within_matches timestamp records dated d lead leads within (λ x. refl))
+      ∙ pass_each timestamp read passes (accepted_in d leads records) (λ x h. reads x (has_passed leads records x (has_directed d (filter leads records) x h)).0)
+      ∙ filter_directed passes d (filter leads records)
+      ∙ ap (in_direction d) (filter_both leads passes records)
+      ∙ ap (in_direction d) (filter_agree (λ x. leads x && passes x) accepts same records)
 
 -- the answer of a valid search
 pub answer_is : {X : Type 0} (search : Search X) (rows : List X) → search.is_valid ≡ true → (d : Direction) → d ≡ direction_of search.is_reversed

@@ -16,7 +16,10 @@ use Rattle.tf_query.specs.declared.condition.Condition.{Condition}
 use Rattle.tf_query.specs.declared.window.Window.{Window}
 use Rattle.tf_query.specs.Asked.{account_fields_at, account_filter_at, asks_no_field, meets_at, side_at, transfer_fields_at}
 use Rattle.tf_query.specs.Conditions.{account_conditions, asks_nothing, field_conditions, meets_all, transfer_conditions}
+use Rattle.tf_query.specs.declared.residual.Residual.{Residual}
+use Rattle.tf_query.specs.Residual.{AreFirstPassing, first_passing}
 use Rattle.tf_query.specs.Windows.{AreFirst, first_within}
+use Rattle.tf_records.specs.declared.transfer.Transfer.{Transfer}
 
 -- what is read at the first timestamps in a window
 pub answered : {T : Type 0} (read : ℕ → Option T) (w : Window) (accepts : ℕ → Bool) (timestamps : List ℕ) (answer : List T) → AreFirst w accepts timestamps → ((left : List ℕ) → IsInOrder w.direction left → ((t : ℕ) → is_among t left ≡ accepts t) → filter_map read (first_within w left) ≡ answer) → filter_map read timestamps ≡ answer
@@ -97,6 +100,21 @@ first-read (Ok v) items w shown d accepts left same e first order members = reco
   first = first ∙ ap (λ (x : Window). first_within x left) same;
 }
 first-read (Err e') items w shown d accepts left same e first order members = tt
+
+-- what was read of a scan in a window and passed
+pub first-tested : {T E : Type 0} (r : Result T E) (items : T → List Transfer) (view : View) (w shown : Window) (residual tested : Residual) (d : Direction) (accepts : ℕ → Bool) (left : List ℕ) → shown ≡ w → tested ≡ residual → d ≡ w.direction → IfOk r (λ v. items v ≡ first_passing view tested shown left) → IfOk r (λ v. IsInOrder d left) → ((t : ℕ) → is_among t left ≡ accepts t) → IfOk r (λ v. AreFirstPassing view residual w accepts (items v))
+first-tested (Ok v) items view w shown residual tested d accepts left same alike e first order members = record {
+  left = left;
+  in_order = subst (λ (x : Direction). IsInOrder x left) e order;
+  members = members;
+  first = first ∙ ap (λ (x : Window). first_passing view tested x left) same ∙ ap (λ (x : Residual). first_passing view x w left) alike;
+}
+first-tested (Err e') items view w shown residual tested d accepts left same alike e first order members = tt
+
+-- and is an answer
+pub tested-answer : {T E : Type 0} (r : Result T E) (items : T → List Transfer) (view : View) (residual : Residual) (w : Window) (accepts : ℕ → Bool) (answer : List Transfer) → IfOk r (λ v. AreFirstPassing view residual w accepts (items v)) → ((left : List ℕ) → IsInOrder w.direction left → ((t : ℕ) → is_among t left ≡ accepts t) → first_passing view residual w left ≡ answer) → IfOk r (λ v. items v ≡ answer)
+tested-answer (Ok v) items view residual w accepts answer f law = f.first ∙ law f.left f.in_order f.members
+tested-answer (Err e') items view residual w accepts answer f law = tt
 
 -- no more timestamps were read than a window has
 pub few-first : (w : Window) (accepts : ℕ → Bool) (timestamps : List ℕ) → AreFirst w accepts timestamps → length timestamps ≤ w.most

@@ -5,6 +5,7 @@ pub mod Indexed
 pub mod Given
 pub mod Asking
 pub mod Answered
+pub mod InParts
 pub mod Searches
 pub mod ById
 pub mod Spelling
@@ -12,3 +13,5 @@ pub mod Reading
 pub mod Asked
 pub mod Narrowing
 pub mod Found
+pub mod Testing
+pub mod Finding

@@ -25,10 +25,6 @@ take-zero : {X : Type 0} (xs : List X) → take 0 xs ≡ []
 take-zero [] = refl
 take-zero (x ∷ xs) = refl
 
-append-none : {X : Type 0} (xs : List X) → xs ++ [] ≡ xs
-append-none [] = refl
-append-none (x ∷ xs) = ap (λ ys. x ∷ ys) (append-none xs)
-
 -- what a second test keeps is what it kept before, where it accepts nothing that the first drops
 keep-both : (p q : ℕ → Bool) (ts : List ℕ) → ((t : ℕ) → q t ≡ false → p t ≡ false) → filter p (filter q ts) ≡ filter p ts
 keep-both p q [] h = refl
@@ -233,6 +229,10 @@ part-read d w most full room taken n was out rest old new f e r g moved behind o
       few = omega arith;
       inside = omega (arith, long);
       left_from = subst (AreFrom d w) (sym others) (from-drop d w taken old f);
+      whole =
+          ap (λ (ts : List ℕ). ts ++ all_within w new) both
+          ∙ ap (λ (ts : List ℕ). take n old ++ ts) left
+          ∙ sym cut.kept;
       joined =
           ap (λ (ts : List ℕ). ts ++ take (most - n) (all_within w new)) both
           ∙ ap (λ (ts : List ℕ). take n old ++ take (most - n) ts) left
@@ -244,13 +244,7 @@ part-read d w most full room taken n was out rest old new f e r g moved behind o
 
 -- ---- what is read part by part
 
-none-off : (n : ℕ) → n - 0 ≡ n
-none-off n = omega arith
-
 -- the same in a direction that was asked for
-pub from-in : (d r : Direction) (w : Window) (ts : List ℕ) → r ≡ d → AreFrom d w ts → AreFrom r w ts
-from-in d r w ts e f = subst (λ (x : Direction). AreFrom x w ts) (sym e) f
-
 pub part-in : (d r : Direction) (w : Window) (most count : ℕ) (part old new : List ℕ) → r ≡ d → IsPart r w most count part old new → IsPart d w most count part old new
 part-in d r w most count part old new e p = subst (λ (x : Direction). IsPart x w most count part old new) e p
 
@@ -272,17 +266,6 @@ read-more d w count full part read more old new whole few joined p e m =
       ends = λ short. ap (λ (i : ℕ). take i (all_within w new)) left ∙ p.ends (omega arith);
     }
 
--- nothing was read before the first part
-pub read-first : (d : Direction) (w : Window) (count full : ℕ) (part read old new whole : List ℕ) → all_within w old ≡ all_within w whole → IsPart d w w.most count part old new → full ≡ length part → read ≡ take count part → AreRead d w count full read new whole
-read-first d w count full part read old new whole same p e m =
-    let start : take (w.most - 0) (all_within w old) ≡ first_within w whole = ap (λ (i : ℕ). take i (all_within w old)) (none-off w.most) ∙ ap (take w.most) same in
-    read-more d w count full part [] read old new whole (omega arith) start (subst (λ (i : ℕ). IsPart d w i count part old new) (sym (none-off w.most)) p) e m
-
-pub read-next : (d : Direction) (w : Window) (last count full : ℕ) (part read more old new whole : List ℕ) → AreRead d w last full read old whole → IsPart d w (w.most - length read) count part old new → full ≡ length part → more ≡ read ++ take count part → AreRead d w count full more new whole
-read-next d w last count full part read more old new whole r p e m = read-more d w count full part read more old new whole r.few r.joined p e m
-
--- the last part wasn't filled
-pub read-whole : (d : Direction) (w : Window) (count full : ℕ) (read left whole : List ℕ) → AreRead d w count full read left whole → (count ≡ full → ⊥) → read ≡ first_within w whole
-read-whole d w count full read left whole r short =
-    let i = r.inside in
-    sym (append-none read) ∙ ap (λ (ts : List ℕ). read ++ ts) (sym (r.ends (omega arith))) ∙ r.joined
+pub read-next : (d : Direction) (w : Window) (last count full asked : ℕ) (part read more old new whole : List ℕ) → AreRead d w last full read old whole → asked ≡ w.most - length read → IsPart d w asked count part old new → full ≡ length part → more ≡ read ++ take count part → AreRead d w count full more new whole
+read-next d w last count full asked part read more old new whole r few p e m =
+    read-more d w count full part read more old new whole r.few r.joined (subst (λ (i : ℕ). IsPart d w i count part old new) few p) e m

@@ -2,7 +2,7 @@
 use Rattle.std.proofs.Common.{◌≡◌, ℕ, min, Bool, true, false, ◌&&◌, ◌||◌, cond, List, [], map, take, Some, refl, sym, ◌∙◌, ap}
 use Rattle.std.specs.Prelude.{◌==◌, is_some}
 use Rattle.std.specs.List.{filter as keep, filter_map}
-use Rattle.std.specs.Option.{option_map, option_map_or}
+use Rattle.std.specs.Option.{option_and_then, option_map, option_map_or}
 use Rattle.std.proofs.lemmas.Bool.{and_parts}
 use Rattle.std.proofs.lemmas.List.{map-id}
 use Rattle.tf_records.specs.declared.account_filter.AccountFilter.{AccountFilter}
@@ -24,8 +24,13 @@ use Rattle.tf_query.specs.Asked.{account_fields_at, account_filter_at, transfer_
 use Rattle.tf_query.specs.Fields.{account_field, has_value, transfer_field}
 use Rattle.tf_query.specs.Matches.{AreDated, account_timestamp, accepted_in, direction_of, holds_at, record_at, transfer_timestamp}
 use Rattle.tf_query.specs.Reads.{account_in, balance_in, has_entry, is_on_side, shown_in, transfer_in}
-use Rattle.tf_query.proofs.Answered.{answer_is, answered, record_found}
+use Rattle.tf_query.specs.declared.residual.Residual.{Residual}
+use Rattle.tf_query.specs.declared.residual.Tested.{Tested}
+use Rattle.tf_query.specs.Residual.{account_lead, account_residual, first_passing, passed, passes, passing_in, query_lead, query_residual}
+use Rattle.tf_query.specs.Windows.{account_window, query_window}
+use Rattle.tf_query.proofs.Answered.{answer_is, answered, passing_answered, record_found}
 use Rattle.tf_query.proofs.Asking.{account_fields_held, account_filter_held, asked_within, fields_within, has_asked, has_fields, transfer_fields_held}
+use Rattle.tf_query.proofs.InParts.{asked_in_parts, fields_in_parts}
 
 -- an account on a side that is asked for is on a side
 on_side : (a b p q : Bool) → ((a && p) || (b && q)) ≡ true → (p || q) ≡ true
@@ -66,6 +71,32 @@ module _ (view : View) (journal : List Entry) (dated : AreDated transfer_timesta
       (λ t. members t ∙ transfer_fields_held view (transfers_of journal) indexed given filter t) (min filter.limit answer_max)
       ∙ map-id (take (min filter.limit answer_max) (accepted_in d (λ x. matches_query_filter filter (searched_transfer x)) (transfers_of journal)))
       ∙ answer_is (query_search searched_transfer filter) (transfers_of journal) valid d is
+
+  -- a transfer that passes is read, and no other
+  passing_read : (residual : Residual) (x : Transfer) → Has (transfers_of journal) x → passing_in view residual x.timestamp ≡ passed residual x
+  passing_read residual x h = ap (option_and_then (passed residual)) (transfer_read x h)
+
+  pub account_transfers_tested : (tested : Tested) (filter : AccountFilter) → is_valid_account_filter filter ≡ true
+      → (left : List ℕ) → IsInOrder (account_window filter).direction left → ((t : ℕ) → is_among t left ≡ account_filter_at view (account_lead tested filter) t)
+      → first_passing view (account_residual tested filter) (account_window filter) left ≡ account_transfers_of journal filter
+  account_transfers_tested tested filter valid left ordered members =
+      ap (take (min filter.limit answer_max))
+      (passing_answered transfer_timestamp (transfers_of journal) dated (account_window filter).direction (has_asked (account_lead tested filter)) (passes (account_residual tested filter))
+      (matches_account_filter filter) (is_within filter.timestamp_min filter.timestamp_max) (asked_in_parts tested filter)
+      (passing_in view (account_residual tested filter)) (passing_read (account_residual tested filter)) left ordered
+      (λ t. members t ∙ account_filter_held view (transfers_of journal) indexed (account_lead tested filter) t))
+      ∙ answer_is (account_search filter) (transfers_of journal) valid (account_window filter).direction refl
+
+  pub transfers_tested : (tested : Tested) (filter : QueryFilter) → is_valid_query_filter filter ≡ true
+      → (left : List ℕ) → IsInOrder (query_window filter).direction left → ((t : ℕ) → is_among t left ≡ transfer_fields_at view (query_lead tested filter) t)
+      → first_passing view (query_residual tested filter) (query_window filter) left ≡ found_transfers_of journal filter
+  transfers_tested tested filter valid left ordered members =
+      ap (take (min filter.limit answer_max))
+      (passing_answered transfer_timestamp (transfers_of journal) dated (query_window filter).direction (λ x. has_fields (query_lead tested filter) (searched_transfer x)) (passes (query_residual tested filter))
+      (λ x. matches_query_filter filter (searched_transfer x)) (is_within filter.timestamp_min filter.timestamp_max) (fields_in_parts tested filter)
+      (passing_in view (query_residual tested filter)) (passing_read (query_residual tested filter)) left ordered
+      (λ t. members t ∙ transfer_fields_held view (transfers_of journal) indexed given (query_lead tested filter) t))
+      ∙ answer_is (query_search searched_transfer filter) (transfers_of journal) valid (query_window filter).direction refl
 
   pub history_answered : (filter : AccountFilter) → is_valid_account_filter filter ≡ true → has_history journal filter.account_id ≡ true
       → ((t : ℕ) → holds_at transfer_timestamp (is_on_side filter.account_id) (transfers_of journal) t ≡ true

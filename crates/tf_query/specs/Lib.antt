@@ -5,4 +5,6 @@ pub mod Asked
 pub mod Conditions
 pub mod Windows
 pub mod Reading
+pub mod Residual
 pub mod Version
+pub mod Finder

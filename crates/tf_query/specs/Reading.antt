@@ -28,6 +28,7 @@ pub record IsPart (d : Direction) (window : Window) (most count : ℕ) (part lef
   pub few : count ≤ most
   pub inside : count ≤ length part
   pub left_from : AreFrom d window left
+  pub whole : take count part ++ all_within window left ≡ all_within window left_old
   pub joined : take count part ++ take (most - count) (all_within window left) ≡ take most (all_within window left_old)
   pub ends : count < length part → take (most - count) (all_within window left) ≡ []
 

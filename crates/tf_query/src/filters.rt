@@ -6,10 +6,15 @@ ghost use Rattle.tf_journal.specs.Filter.{is_valid_account_filter, is_valid_quer
 ghost use Rattle.tf_journal.specs.Lawful.{IsSound};
 ghost use Rattle.tf_manifest.specs.View.{ShowsJournal};
 ghost use Rattle.tf_query.specs.Asked.{account_fields_at, account_filter_at, transfer_fields_at};
+ghost use Rattle.tf_query.specs.Residual.{AreFirstPassing, account_lead, account_residual, query_lead, query_residual};
 ghost use Rattle.tf_query.specs.Windows.{AreFirst, account_window, query_window};
 
 use crate::condition::{account_conditions, field_conditions, transfer_conditions};
+use crate::laws::leads_answer_filters;
+use crate::leading::{tested_of_account_filter, tested_of_query_filter};
+use crate::passing::passing_within;
 use crate::reads::{accounts_at, transfers_at};
+use crate::residual::{Residual, Tested, account_lead, query_lead};
 use crate::scans::{narrowed, object_scan, sides};
 use crate::scans_answer_filters;
 use crate::timestamps::timestamps_within;
@@ -99,6 +104,69 @@ fn found_account_timestamps<A: Allocator, N: Naming, B: Allocator + Copy>(
     }
 }
 
+/// The transfers that a valid filter of an account's transfers asks for, each of which was tested for what is left to be. It
+/// isn't inlined, so that a query that tests nothing has no room to make for its parts.
+#[inline(never)]
+fn tested_account_transfers<A: Allocator, N: Naming, B: Allocator + Copy>(
+    alloc: B,
+    manifest: &Manifest<'_, A, N>,
+    filter: &AccountFilter,
+    tested: Tested,
+) -> Result<Vec<Transfer, B>, Refusal>
+    requires { is_valid_account_filter filter.now ≡ true }
+    ensures ok { IfOk result (λ rows. AreFirstPassing manifest.now (account_residual tested filter.now) (account_window filter.now) (account_filter_at manifest.now (account_lead tested filter.now)) rows.items) }
+    ensures room { IfOk result (λ rows. vec_capacity rows ≤ min filter.now.limit answer_max) }
+    ensures refusal { IfErr result (λ refusal. refusal ≡ Refusal.NoMemory) }
+{
+    let window = Window::of_account_filter(filter);
+    let residual = Residual::of_account_filter(tested, filter);
+    let both = match sides(alloc, manifest, window.direction, filter) {
+        Ok(both) => both,
+        Err(refusal) => return Err(refusal),
+    };
+    match narrowed(
+        alloc,
+        manifest,
+        window.direction,
+        Some(both),
+        &field_conditions(&account_lead(tested, filter)),
+    ) {
+        Ok(Some(mut scan)) => passing_within(alloc, manifest, &residual, &mut scan, &window),
+        Ok(None) => unreachable!(),
+        Err(refusal) => Err(refusal),
+    }
+}
+
+/// The transfers that a valid filter asks for, each of which was tested for what is left to be. Nor is this inlined.
+#[inline(never)]
+fn tested_transfers<A: Allocator, N: Naming, B: Allocator + Copy>(
+    alloc: B,
+    manifest: &Manifest<'_, A, N>,
+    filter: &QueryFilter,
+    tested: Tested,
+) -> Result<Vec<Transfer, B>, Refusal>
+    ensures ok { IfOk result (λ rows. AreFirstPassing manifest.now (query_residual tested filter.now) (query_window filter.now) (transfer_fields_at manifest.now (query_lead tested filter.now)) rows.items) }
+    ensures room { IfOk result (λ rows. vec_capacity rows ≤ min filter.now.limit answer_max) }
+    ensures refusal { IfErr result (λ refusal. refusal ≡ Refusal.NoMemory) }
+{
+    let window = Window::of_query_filter(filter);
+    let residual = Residual::of_query_filter(tested, filter);
+    match narrowed(
+        alloc,
+        manifest,
+        window.direction,
+        None,
+        &transfer_conditions(&query_lead(tested, filter)),
+    ) {
+        Ok(Some(mut scan)) => passing_within(alloc, manifest, &residual, &mut scan, &window),
+        Ok(None) => {
+            let mut scan = object_scan(manifest.transfers.row(0), window.direction);
+            passing_within(alloc, manifest, &residual, &mut scan, &window)
+        }
+        Err(refusal) => Err(refusal),
+    }
+}
+
 /// The transfers of an account that a filter asks for, in any journal that the manifest shows.
 pub fn account_transfers<A: Allocator, N: Naming, B: Allocator + Copy>(
     alloc: B,
@@ -112,6 +180,11 @@ pub fn account_transfers<A: Allocator, N: Naming, B: Allocator + Copy>(
 {
     if !is_valid_account_filter(filter) {
         return Ok(Vec::new(alloc));
+    }
+    let tested = tested_of_account_filter(manifest, filter);
+    if tested.code {
+        leads_answer_filters();
+        return tested_account_transfers(alloc, manifest, filter, tested);
     }
     scans_answer_filters();
     match account_timestamps(alloc, manifest, filter) {
@@ -133,6 +206,11 @@ pub fn found_transfers<A: Allocator, N: Naming, B: Allocator + Copy>(
 {
     if !is_valid_query_filter(filter) {
         return Ok(Vec::new(alloc));
+    }
+    let tested = tested_of_query_filter(manifest, filter);
+    if tested.ledger || tested.code {
+        leads_answer_filters();
+        return tested_transfers(alloc, manifest, filter, tested);
     }
     scans_answer_filters();
     match transfer_timestamps(alloc, manifest, filter) {

@@ -19,7 +19,10 @@ ghost use Rattle.tf_query.specs.Asked.{account_fields_at, account_filter_at, tra
 ghost use Rattle.tf_query.specs.Fields.{account_field, has_value, transfer_field};
 ghost use Rattle.tf_query.specs.Matches.{AreDated, account_timestamp, direction_of, holds_at, matches_of, record_at, transfer_timestamp};
 ghost use Rattle.tf_query.specs.Reads.{account_in, account_stamp_in, balance_in, has_entry, is_on_side, shown_in, state_in, transfer_in, transfer_stamp_in};
+ghost use Rattle.tf_query.specs.declared.residual.Tested.{Tested};
+ghost use Rattle.tf_query.specs.Residual.{account_lead, account_residual, first_passing, query_lead, query_residual};
 ghost use Rattle.tf_query.specs.Version.{journal_shown};
+ghost use Rattle.tf_query.specs.Windows.{account_window, query_window};
 ghost use Rattle.tf_records.specs.declared.account_filter.AccountFilter.{AccountFilter};
 ghost use Rattle.tf_records.specs.declared.query_filter.QueryFilter.{QueryFilter};
 ghost use Rattle.tf_scan.specs.declared.direction.Direction.{Direction};
@@ -98,6 +101,18 @@ pub fn scans_answer_filters()
     rows_index_records();
     rows_give_records();
     // A list in order that has the timestamps of matching records is the list of their timestamps.
+}
+
+/// The answer of a valid filter of which a part is tested. A list in order has the timestamps of the records that have what
+/// leads to them; of those within the filter's bounds, the first that pass the rest are the answer. Does nothing.
+pub fn leads_answer_filters()
+    ensures account_transfers { (view : View) (journal : List Entry) → IsSound journal → ShowsJournal view journal → (tested : Tested) (filter : AccountFilter) → is_valid_account_filter filter ≡ true → (left : List ℕ) → IsInOrder (account_window filter).direction left → ((t : ℕ) → is_among t left ≡ account_filter_at view (account_lead tested filter) t) → first_passing view (account_residual tested filter) (account_window filter) left ≡ account_transfers_of journal filter }
+    ensures transfers { (view : View) (journal : List Entry) → IsSound journal → ShowsJournal view journal → (tested : Tested) (filter : QueryFilter) → is_valid_query_filter filter ≡ true → (left : List ℕ) → IsInOrder (query_window filter).direction left → ((t : ℕ) → is_among t left ≡ transfer_fields_at view (query_lead tested filter) t) → first_passing view (query_residual tested filter) (query_window filter) left ≡ found_transfers_of journal filter }
+{
+    records_are_dated();
+    rows_index_records();
+    rows_give_records();
+    // A record has what a filter asks for where it has what leads and passes the rest.
 }
 
 /// The journal that a manifest's tables show is the one that they spell. Does nothing.

@@ -2,15 +2,20 @@
 //!
 //! A version is a copy of a manifest's references. What it answers is the answer of its journal, whatever is published or
 //! merged later. Each filter is answered by one plan: the timestamps that the indexes have under what it asks for are
-//! joined, those within its bounds are read in its direction, and each is replaced by its record.
+//! joined, those within its bounds are read in its direction, and each is replaced by its record. Of transfers a ledger or a
+//! code that is asked for beside something that leads to fewer is left out there, and tested on the records.
 #![tactic(auto)]
 
 mod condition;
 mod filters;
+mod finder;
 mod history;
 mod laws;
+mod leading;
 mod look_ups;
+mod passing;
 mod reads;
+mod residual;
 mod scans;
 mod timestamps;
 mod version;

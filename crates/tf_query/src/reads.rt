@@ -1,11 +1,13 @@
 //! What tables have at timestamps.
 ghost use Rattle.std.specs.Prelude.{◌≡◌, ◌+◌, ◌<◌, ◌≤◌, ◌++◌, filter_map, length, vec_capacity, vec_len, IfErr, IfOk};
 ghost use Rattle.std.specs.Option.{option_copied, option_to_list};
+ghost use Rattle.tf_manifest.specs.Row.{content_at};
 ghost use Rattle.tf_manifest.specs.Rows.{key_of};
-ghost use Rattle.tf_query.specs.Reads.{account_in, balance_in, shown_by, shown_in, state_in, sums_in, transfer_in};
+ghost use Rattle.tf_query.specs.Reads.{account_in, balance_in, shown_by, shown_in, state_in, stored_record, sums_in, transfer_in};
 
+use crate::finder::Finder;
 use std::alloc::Allocator;
-use tf_manifest::{Manifest, Naming, Near, State};
+use tf_manifest::{Manifest, Naming, Near, State, Stored};
 use tf_records::{Account, AccountBalance, Refusal, Sums, Transfer};
 use tf_table::Key;
 
@@ -138,6 +140,18 @@ pub fn push_record<T: Copy + Drop, B: Allocator>(rows: &mut Vec<T, B>, found: Op
     }
 }
 
+/// The transfer with this timestamp, where its table has it, by what looked for others before it.
+pub fn found_transfer<'r, A: Allocator, N: Naming>(
+    transfers: &mut Finder<'_, 'r, Stored<Transfer>, A, N>,
+    timestamp: u64,
+) -> Option<&'r Transfer>
+    ensures found { option_copied result ≡ stored_record (content_at (key_of 0 timestamp) transfers.old) }
+    ensures same { transfers.new ≡ transfers.old }
+{
+    let stored = transfers.find(&key_of(0, timestamp))?;
+    Some(&stored.record)
+}
+
 /// The transfers with these timestamps. Room for them is made once, and `NoMemory` is the only refusal.
 pub fn transfers_at<A: Allocator, N: Naming, B: Allocator>(
     alloc: B,
@@ -149,8 +163,9 @@ pub fn transfers_at<A: Allocator, N: Naming, B: Allocator>(
     ensures refusal { IfErr result (λ refusal. refusal ≡ Refusal.NoMemory) }
 {
     let mut rows = Vec::with_capacity(alloc, timestamps.len())?;
+    let mut transfers = Finder::new(manifest.transfers.row(0));
     for timestamp in timestamps {
-        push_record(&mut rows, transfer_at(manifest, *timestamp));
+        push_record(&mut rows, found_transfer(&mut transfers, *timestamp));
     }
     Ok(rows)
 }

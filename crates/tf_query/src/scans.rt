@@ -95,6 +95,7 @@ pub fn narrowed<'r, A: Allocator, N: Naming, B: Allocator + Copy>(
 
 /// The timestamps of the transfers that have a filter's account on a side that is asked for. Both sides take two boxes, and
 /// `NoMemory` is the only refusal.
+#[inline(always)]
 pub fn sides<'r, A: Allocator, N: Naming, B: Allocator + Copy>(
     alloc: B,
     manifest: &Manifest<'r, A, N>,

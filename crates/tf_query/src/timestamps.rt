@@ -12,10 +12,10 @@ use tf_records::Refusal;
 use tf_scan::{Direction, Leaf, Scan};
 
 /// How many timestamps are read off a scan at once.
-const PART: usize = 256;
+pub const PART: usize = 256;
 
 /// Takes out what comes before a window's first bound.
-fn seek_first<P: Leaf, B: Allocator>(scan: &mut Scan<P, B>, window: &Window)
+pub fn seek_first<P: Leaf, B: Allocator>(scan: &mut Scan<P, B>, window: &Window)
     ensures direction { scan.new.direction ≡ scan.old.direction }
     ensures from { AreFrom scan.old.direction window.now scan.new.left }
     ensures same { all_within window.now scan.new.left ≡ all_within window.now scan.old.left }
@@ -48,7 +48,7 @@ fn count_within(window: &Window, timestamps: &[u64]) -> usize
 /// Moves the next timestamps of a scan to the front of `part`, at most so many, and tells how many of them lie in a window.
 ///
 /// Fewer than it has room for are the last that are asked for.
-fn read_part<P: Leaf, B: Allocator>(
+pub fn read_part<P: Leaf, B: Allocator>(
     scan: &mut Scan<P, B>,
     window: &Window,
     most: usize,

@@ -76,11 +76,17 @@ impl<'r, A: Allocator, N: Naming> Version<'r, A, N> {
     /// first of the filter's limit where that is less. The answer of an invalid filter is empty and takes no memory.
     /// [`Refusal::NoMemory`] is the only refusal.
     ///
-    /// It reads the timestamps of the account's transfers, of those with each field that is asked for, and of both sides,
-    /// side by side, and seeks from one to the next that all can have. It reads them in parts of 256, none longer than what
-    /// is still asked for, so that few open few tables. Memory is taken for two boxes for each of them but the first, once
-    /// for the timestamps (just as many where one part has them all, else as many as the limit), and once for just as many
-    /// rows, into which each record is copied from its table. Restates the reference page get_account_transfers.
+    /// It reads the timestamps of the account's transfers, of those with each field of the user's that is asked for, and of
+    /// both sides, side by side, and seeks from one to the next that all can have. It reads them in parts of 256, none longer
+    /// than what is still asked for, so that few open few tables. Memory is taken for two boxes for each of them but the
+    /// first, once for the timestamps (just as many where one part has them all, else as many as the limit), and once for
+    /// just as many rows, into which each record is copied from its table.
+    ///
+    /// A code of which there are no fewer timestamps than of the account, by the largest tables of their indexes, isn't read so:
+    /// it is tested on the records at the other timestamps, each of which costs one look-up, whether it passes or not, and a
+    /// part is no longer than the limit. Then memory is taken for the boxes, and once for rows: as many as the first part has
+    /// timestamps where it has them all, else as many as the limit. Restates the reference page
+    /// get_account_transfers.
     pub fn get_account_transfers<B: Allocator + Copy>(
         &self,
         alloc: B,
@@ -97,8 +103,9 @@ impl<'r, A: Allocator, N: Naming> Version<'r, A, N> {
     /// The balances of an account right after each transfer that `get_account_transfers` gives, each with that transfer's
     /// timestamp: of a stored account with the flag `HISTORY` alone, else nothing.
     ///
-    /// Refused as there, and read in the same way; the balances of each transfer are looked up from where those of the last one
-    /// stand. Restates the reference page get_account_balances.
+    /// Refused as there, and read in the same way, but that the timestamps of a code that is asked for are read beside the
+    /// others; the balances of each transfer are looked up from where those of the last one stand. Restates the reference page
+    /// get_account_balances.
     pub fn get_account_balances<B: Allocator + Copy>(
         &self,
         alloc: B,
@@ -114,8 +121,9 @@ impl<'r, A: Allocator, N: Naming> Version<'r, A, N> {
 
     /// The accounts that a filter asks for, each with its balances, and marked as closed where it is.
     ///
-    /// Their order, number and refusals, and the cost, are those of `get_account_transfers`, with two look-ups in rows for
-    /// each account. Restates the reference page query_accounts.
+    /// Their order, number and refusals, and the cost, are those of `get_account_transfers` without a code, with two look-ups
+    /// in rows for each account: the timestamps of each field that is asked for are read side by side. Restates the reference
+    /// page query_accounts.
     pub fn query_accounts<B: Allocator + Copy>(
         &self,
         alloc: B,
@@ -131,8 +139,9 @@ impl<'r, A: Allocator, N: Naming> Version<'r, A, N> {
 
     /// The transfers that a filter asks for.
     ///
-    /// Their order, number and refusals, and the cost, are those of `get_account_transfers`. Restates the reference page
-    /// query_transfers.
+    /// Their order, number and refusals, and the cost, are those of `get_account_transfers`: a ledger or a code of which there
+    /// are no fewer timestamps than of another field that is asked for is tested on the records; the timestamps of each other
+    /// field are read side by side. Restates the reference page query_transfers.
     pub fn query_transfers<B: Allocator + Copy>(
         &self,
         alloc: B,

@@ -4,10 +4,11 @@ use Rattle.std.specs.Prelude.{vec_capacity}
 use Rattle.tf_records.specs.declared.transfer.Transfer.{Transfer}
 use Rattle.tf_query.specs.Asked.{account_filter_at}
 use Rattle.tf_query.specs.Reads.{transfer_in}
+use Rattle.tf_query.specs.Residual.{account_lead, account_residual}
 use Rattle.tf_query.specs.Windows.{account_window}
 use Rattle.tf_journal.specs.Filter.{account_search}
 use Rattle.tf_journal.specs.Journal.{transfers_of}
-use Rattle.tf_query.proofs.Asked.{answered, few-rows, nothing}
+use Rattle.tf_query.proofs.Asked.{answered, few-rows, nothing, tested-answer}
 use Rattle.tf_query.proofs.filters.account_transfers.Goals as goal
 
 pub returns-in-Ok-clause-ok : goal.returns-in-Ok-clause-ok
@@ -26,3 +27,8 @@ returns-then-not-is_valid_account_filter-clause-ok g c journal sound shows =
 pub returns-in-Ok-clause-room : goal.returns-in-Ok-clause-room
 returns-in-Ok-clause-room g c =
     few-rows c.transfers_at.result (λ rows. vec_capacity rows) (account_window c.args.filter.now) (account_filter_at c.args.manifest.now c.args.filter.now) c.in-Ok.timestamps.items _ c.as_slice.ensures.value c.in-Ok.ensures.ok c.transfers_at.ensures.room
+
+pub returns-then-tested-clause-ok : goal.returns-then-tested-clause-ok
+returns-then-tested-clause-ok g c journal sound shows =
+    tested-answer c.tested_account_transfers.result (λ v. v.items) c.args.manifest.now (account_residual c.tested_of_account_filter-tested.result c.args.filter.now) (account_window c.args.filter.now) (account_filter_at c.args.manifest.now (account_lead c.tested_of_account_filter-tested.result c.args.filter.now)) _ c.tested_account_transfers.ensures.ok
+    (c.leads_answer_filters.ensures.account_transfers c.args.manifest.now journal sound shows c.tested_of_account_filter-tested.result c.args.filter.now (sym c.is_valid_account_filter.ensures ∙ c.if-not-is_valid_account_filter.false))

@@ -1,0 +1,69 @@
+-- The first list that has a key, place by place.
+use Rattle.std.proofs.Common.{◌≡◌, ℕ, zero, suc, ◌+◌, ◌<◌, List, [], ◌∷◌, length, map, take, get_or, Option, Some, None, slice_get, refl, sym, ◌∙◌, ap, add-one}
+use Rattle.std.specs.Option.{option_map}
+use Rattle.std.proofs.lemmas.Option.{slice_get-map, slice_get-get_or}
+use Rattle.tf_table.specs.declared.key.Key.{Key}
+use Rattle.tf_table.specs.declared.span.Span.{Span}
+use Rattle.tf_table.specs.Content.{first_some, entry_at, entry_of}
+use Rattle.tf_table.specs.Span.{HasSpan, timestamps}
+use Rattle.tf_scan.specs.Sets.{is_among}
+use Rattle.tf_scan.proofs.Entries.{entry-absent, entry-outside}
+use Rattle.tf_query.specs.declared.finder.Part.{Part}
+use Rattle.tf_query.specs.Finder.{IsInPart, IsOutside, AreSilent}
+
+first_absent : {X : Type 0} (a b : Option X) → first_some a b ≡ None → a ≡ None
+first_absent None b e = refl
+first_absent (Some x) b e = absurd (cc)
+
+others_absent : {X : Type 0} (a b : Option X) → first_some a b ≡ None → b ≡ None
+others_absent None b e = e
+others_absent (Some x) b e = absurd (cc)
+
+alone : {X : Type 0} (a : Option X) → first_some a None ≡ a
+alone None = refl
+alone (Some x) = refl
+
+module _ {V : Type 0} (key : Key) where
+  -- where the lists before a place don't have the key, those up to it have what that one has
+  pub entry_next : (n : ℕ) (lists : List (List (Key × Option V))) (rows : List (Key × Option V)) → entry_of key (take n lists) ≡ None → slice_get lists n ≡ Some rows → entry_of key (take (suc n) lists) ≡ entry_at key rows
+  entry_next zero (x ∷ lists) rows e s = alone (entry_at key x) ∙ ap (λ r. entry_at key r) (same s)
+    where
+      same : Some x ≡ Some rows → x ≡ rows
+      same h = cc
+  entry_next (suc n) (x ∷ lists) rows e s =
+      ap (λ a. first_some a (entry_of key (take (suc n) lists))) (first_absent (entry_at key x) (entry_of key (take n lists)) e)
+      ∙ entry_next n lists rows (others_absent (entry_at key x) (entry_of key (take n lists)) e) s
+  entry_next zero [] rows e s = absurd (cc)
+  entry_next (suc n) [] rows e s = absurd (cc)
+
+  -- and if that one has it, so do all
+  pub entry_there : (n : ℕ) (lists : List (List (Key × Option V))) (rows : List (Key × Option V)) (entry : Option V) → entry_of key (take n lists) ≡ None → slice_get lists n ≡ Some rows → entry_at key rows ≡ Some entry → entry_of key lists ≡ Some entry
+  entry_there zero (x ∷ lists) rows entry e s h = ap (λ a. first_some a (entry_of key lists)) (ap (λ r. entry_at key r) (same s) ∙ h)
+    where
+      same : Some x ≡ Some rows → x ≡ rows
+      same h = cc
+  entry_there (suc n) (x ∷ lists) rows entry e s h =
+      ap (λ a. first_some a (entry_of key lists)) (first_absent (entry_at key x) (entry_of key (take n lists)) e)
+      ∙ entry_there n lists rows entry (others_absent (entry_at key x) (entry_of key (take n lists)) e) s h
+  entry_there zero [] rows entry e s h = absurd (cc)
+  entry_there (suc n) [] rows entry e s h = absurd (cc)
+
+-- a table has nothing at a timestamp outside its span
+pub outside_absent : {V : Type 0} (span : Option Span) (key : Key) (rows : List (Key × Option V)) → HasSpan span (timestamps rows) → IsOutside span key.timestamp → entry_at key rows ≡ None
+outside_absent None key rows h o = entry-absent key.value key.timestamp rows (ap (is_among key.timestamp) h)
+outside_absent (Some span) key rows h o = entry-outside key.value span key.timestamp rows h o
+
+-- where the lists before a place have nothing in a part of time, those up to it have nothing in what of it lies beside its span
+pub silent_next : {V : Type 0} (n : ℕ) (lists : List (List (Key × Option V))) (rows : List (Key × Option V)) (part next : Part) (span : Option Span) → slice_get lists n ≡ Some rows → HasSpan span (timestamps rows)
+    → ((t : ℕ) → IsInPart next t → IsInPart part t) → ((t : ℕ) → IsInPart next t → IsOutside span t) → AreSilent part (take n lists) → AreSilent next (take (n + 1) lists)
+silent_next n lists rows part next span s h kept outside silent = λ key inside.
+    ap (λ k. entry_of key (take k lists)) (add-one n)
+    ∙ entry_next key n lists rows (silent key (kept key.timestamp inside)) s
+    ∙ outside_absent span key rows h (outside key.timestamp inside)
+
+-- what is read of a list of tables at a place
+pub rows_there : {T S R : Type 0} (shown : T → S) (rows_of : S → R) (tables : List T) (place : ℕ) (table : T) (rows : R) → place < length tables → table ≡ get_or tables place table → rows ≡ rows_of (shown table) → slice_get (map rows_of (map shown tables)) place ≡ Some rows
+rows_there shown rows_of tables place table rows l is same =
+    slice_get-map rows_of (map shown tables) place
+    ∙ ap (option_map rows_of) (slice_get-map shown tables place ∙ ap (option_map shown) (slice_get-get_or tables place table l ∙ ap Some (sym is)))
+    ∙ ap Some (sym same)

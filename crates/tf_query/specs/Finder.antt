@@ -1,0 +1,25 @@
+-- In which part of time tables have nothing.
+use Rattle.std.specs.Prelude.{◌≡◌, ℕ, ◌≤◌, List, Option, Some, None, ⊤, false, take}
+use Rattle.tf_table.specs.declared.key.Key.{Key}
+use Rattle.tf_table.specs.declared.span.Span.{Span}
+use Rattle.tf_table.specs.Content.{entry_of}
+use Rattle.tf_scan.specs.Place.{is_within}
+use Rattle.tf_query.specs.declared.finder.Part.{Part}
+
+-- a timestamp lies in a part of time
+abbrev pub IsInPart : Part → ℕ → Type 0
+IsInPart part t = (part.first ≤ t) × (t ≤ part.last)
+
+-- it lies outside a span, if there is one
+abbrev pub IsOutside : Option Span → ℕ → Type 0
+IsOutside None t = ⊤
+IsOutside (Some span) t = is_within span t ≡ false
+
+-- the lists have no row in a part of time
+abbrev pub AreSilent : {V : Type 0} → Part → List (List (Key × Option V)) → Type 0
+AreSilent part lists = (key : Key) → IsInPart part key.timestamp → entry_of key lists ≡ None
+
+-- the first list that has a key stands at the place, those before it have nothing in the part of time, and this is its entry
+pub record IsNewest {V : Type 0} (key : Key) (lists : List (List (Key × Option V))) (place : ℕ) (part : Part) (entry : Option V) : Type 0 where
+  pub found : entry_of key lists ≡ Some entry
+  pub silent : AreSilent part (take place lists)

@@ -1,0 +1,90 @@
+//! The transfers that a scan leads to and that pass what is left to be tested.
+ghost use Rattle.std.specs.Prelude.{◌≡◌, ◌+◌, ◌≤◌, ◌++◌, length, min, take, vec_capacity, vec_len, IfErr, IfOk};
+ghost use Rattle.std.specs.List.{filter_map};
+ghost use Rattle.std.specs.Option.{option_and_then, option_copied};
+ghost use Rattle.tf_manifest.specs.Row.{content_at};
+ghost use Rattle.tf_manifest.specs.Rows.{key_of};
+ghost use Rattle.tf_query.specs.Reads.{stored_record};
+ghost use Rattle.tf_query.specs.Residual.{first_passing, passed, passing_in};
+ghost use Rattle.tf_scan.specs.Order.{IsInOrder};
+
+use crate::finder::Finder;
+use crate::reads::{found_transfer, push_record};
+use crate::residual::Residual;
+use crate::timestamps::{PART, read_part, seek_first};
+use crate::window::Window;
+use std::alloc::Allocator;
+use tf_manifest::{Manifest, Naming, Stored};
+use tf_records::{Refusal, Transfer};
+use tf_scan::{Leaf, Scan};
+
+/// The transfer with this timestamp, if it passes, by what looked for others before it.
+fn passing_at<'r, A: Allocator, N: Naming>(
+    transfers: &mut Finder<'_, 'r, Stored<Transfer>, A, N>,
+    residual: &Residual,
+    timestamp: u64,
+) -> Option<&'r Transfer>
+    ensures found { option_copied result ≡ option_and_then (passed residual.now) (stored_record (content_at (key_of 0 timestamp) transfers.old)) }
+    ensures same { transfers.new ≡ transfers.old }
+{
+    let transfer = found_transfer(transfers, timestamp)?;
+    if residual.passes(transfer) {
+        Some(transfer)
+    } else {
+        None
+    }
+}
+
+/// Puts the transfers with these timestamps that pass at the end of the rows, until there are as many as are asked for.
+fn push_passing<A: Allocator, N: Naming, B: Allocator>(
+    manifest: &Manifest<'_, A, N>,
+    residual: &Residual,
+    timestamps: &[u64],
+    most: usize,
+    rows: &mut Vec<Transfer, B>,
+)
+    requires few { vec_len rows.old ≤ most }
+    requires room { min most (vec_len rows.old + length timestamps.now) ≤ vec_capacity rows.old }
+    ensures items { rows.new.items ≡ take most (rows.old.items ++ filter_map (passing_in manifest.now residual.now) timestamps.now) }
+    ensures room { vec_capacity rows.new ≡ vec_capacity rows.old }
+{
+    let mut transfers = Finder::new(manifest.transfers.row(0));
+    for timestamp in timestamps {
+        if rows.len() == most {
+            return;
+        }
+        push_record(rows, passing_at(&mut transfers, residual, *timestamp));
+    }
+}
+
+/// The first transfers in a window that a scan leads to and that pass. Room for them is made once: for as many as there are
+/// timestamps in the window where one part has them all, else for as many as the window has.
+///
+/// It seeks the first bound and reads on in parts, none of them longer than what is asked for, until one has the last
+/// timestamp in the window or there are as many rows as are asked for. Each timestamp that was read costs one look-up.
+/// `NoMemory` is the only refusal.
+pub fn passing_within<P: Leaf, A: Allocator, N: Naming, B: Allocator>(
+    alloc: B,
+    manifest: &Manifest<'_, A, N>,
+    residual: &Residual,
+    scan: &mut Scan<P, B>,
+    window: &Window,
+) -> Result<Vec<Transfer, B>, Refusal>
+    ensures ok { IfOk result (λ rows. rows.items ≡ first_passing manifest.now residual.now window.now scan.old.left) }
+    ensures in_order { IfOk result (λ rows. IsInOrder scan.old.direction scan.old.left) }
+    ensures room { IfOk result (λ rows. vec_capacity rows ≤ window.now.most) }
+    ensures refusal { IfErr result (λ refusal. refusal ≡ Refusal.NoMemory) }
+{
+    seek_first(scan, window);
+    let asked = window.most.min(PART);
+    let mut part = [0; PART];
+    let mut count = read_part(scan, window, asked, &mut part);
+    let room = if count < asked { count } else { window.most };
+    let mut rows = Vec::with_capacity(alloc, room)?;
+    push_passing(manifest, residual, &part[..count], window.most, &mut rows);
+    while count == asked && rows.len() < window.most {
+        count = read_part(scan, window, asked, &mut part);
+        push_passing(manifest, residual, &part[..count], window.most, &mut rows);
+    }
+    Ok(rows)
+}
