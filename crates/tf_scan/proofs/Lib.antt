@@ -14,3 +14,5 @@ pub mod Turns
 pub mod Moves
 pub mod Keys
 pub mod Runs
+pub mod Buffers
+pub mod Unions

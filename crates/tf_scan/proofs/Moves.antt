@@ -95,6 +95,9 @@ module _ (left_old left : List ℕ) (count : ℕ) (out_old out : List ℕ) (m : 
   pub moved-list : out ≡ take count left_old ++ drop count out_old
   moved-list = m.written.list ∙ ap (λ (xs : List ℕ). xs ++ drop count out_old) (sym (ap (take count) m.front ∙ take_at m.ts left count moved-long))
 
+  pub moved-count : count ≤ length left_old
+  moved-count = omega (arith, moved-long, ap length m.front, length-append m.ts left)
+
   pub moved-rest : left ≡ drop count left_old
   moved-rest = sym (ap (drop count) m.front ∙ drop_at m.ts left count moved-long)
 
@@ -107,3 +110,8 @@ module _ (left_old left : List ℕ) (count : ℕ) (out_old out : List ℕ) (m : 
 
   pub moved-end : (next : List ℕ) → None ≡ slice_get left 0 → next ≡ drop 1 left → next ≡ drop count left_old
   moved-end next e f = let none = first-none left (sym e) in f ∙ ap (drop 1) none ∙ sym none ∙ moved-rest
+
+-- nothing is left behind what is moved out of nothing
+pub none-behind : (ts us : List ℕ) → [] ≡ ts ++ us → us ≡ []
+none-behind [] us e = sym e
+none-behind (t ∷ ts) us e = absurd (let i : [] ≡ t ∷ (ts ++ us) = e in cc)

@@ -1,5 +1,5 @@
 -- What the fields of a part of a scan mean, and what holds of them.
-use Rattle.std.specs.Prelude.{◌≡◌, ℕ, suc, max, List, [], ◌∷◌}
+use Rattle.std.specs.Prelude.{◌≡◌, ℕ, suc, max, true, false, List, [], ◌∷◌, ◌++◌, Option, Some, None}
 use Rattle.tf_scan.specs.declared.direction.Direction.{Direction}
 use Rattle.tf_scan.specs.declared.head.Head.{Head}
 use Rattle.tf_scan.specs.declared.head.Head.TheVariants.{Unread, At, End}
@@ -10,6 +10,8 @@ use Rattle.tf_scan.specs.declared.operation.Operation.TheVariants.{Union, Inters
 use Rattle.tf_scan.specs.Order.{AllBehind, IsInOrder}
 use Rattle.tf_scan.specs.Sets.{union_of, intersection_of}
 use Rattle.tf_scan.specs.Part.{Part}
+use Rattle.tf_scan.specs.Place.{is_past}
+use Rattle.tf_scan.specs.Run.{AreWritten}
 
 -- what an operation makes of two lists
 abbrev pub join_of : Operation → Direction → List ℕ → List ℕ → List ℕ
@@ -58,3 +60,29 @@ IsHead d End ts = Unit {0}
 pub record IsNode {P A : Type 0} (direction : P → Direction) (left : P → List ℕ) (d : Direction) (head : Head) (kind : Kind P A) : Type 0 where
   pub below : IsKind direction left d kind
   pub first : IsHead d head (left_behind left d kind)
+
+-- each of these comes before the timestamp, if there is one
+abbrev pub ArePast : Direction → Option ℕ → List ℕ → Type 0
+ArePast d until [] = Unit {0}
+ArePast d until (t ∷ ts) = (is_past d t until ≡ true) × ArePast d until ts
+
+-- the first timestamp, if there is one, doesn't come before the other
+abbrev pub IsNotPast : Direction → Option ℕ → Option ℕ → Type 0
+IsNotPast d until None = Unit {0}
+IsNotPast d until (Some t) = is_past d t until ≡ false
+
+-- the first timestamps of a part, which come before another, if there is one, were taken out and written
+pub record WritesPart (until : Option ℕ) (from to : ℕ) (old new : Part) (out_old out_new : List ℕ) : Type 0 where
+  pub ts : List ℕ
+  pub past : ArePast old.direction until ts
+  pub front : old.left ≡ ts ++ new.left
+  pub kept : KeepsPart old new
+  pub written : AreWritten ts from to out_old out_new
+
+-- the first timestamps of a union were taken out of its parts and written
+pub record WritesUnion (d : Direction) (from to : ℕ) (left right left_new right_new : Part) (out_old out_new : List ℕ) : Type 0 where
+  pub ts : List ℕ
+  pub front : union_of d left.left right.left ≡ ts ++ union_of d left_new.left right_new.left
+  pub left_kept : KeepsPart left left_new
+  pub right_kept : KeepsPart right right_new
+  pub written : AreWritten ts from to out_old out_new

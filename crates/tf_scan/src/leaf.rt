@@ -1,5 +1,5 @@
 //! What a scan reads from.
-ghost use Rattle.std.specs.Prelude.{◌≡◌, ℕ, List, ◌++◌, length, min, take, drop, slice_get};
+ghost use Rattle.std.specs.Prelude.{◌≡◌, ◌≤◌, ◌<◌, ℕ, List, ◌++◌, length, min, take, drop, slice_get};
 ghost use Rattle.tf_scan.specs.declared.direction.Direction as declared;
 ghost use Rattle.tf_scan.specs.Order.{IsInOrder, those_from};
 
@@ -45,5 +45,25 @@ pub trait Leaf {
             }
         }
         out.len()
+    }
+
+    /// Moves the first of them to the front of `out`, in their order, and tells how many those are: one at least, where
+    /// there is room and one is left, and as many more as are at hand. Takes no memory.
+    fn take_some(&mut self, out: &mut [u64]) -> usize
+        ensures room { result ≤ length out.old }
+        ensures count { result ≤ length (left self.old) }
+        ensures some { 0 < length out.old → 0 < length (left self.old) → 0 < result }
+        ensures moved { out.new ≡ take result (left self.old) ++ drop result out.old }
+        ensures others { left self.new ≡ drop result (left self.old) }
+        ensures direction_kept { direction self.new ≡ direction self.old }
+    {
+        if out.is_empty() {
+            return 0;
+        }
+        let Some(timestamp) = self.next() else {
+            return 0;
+        };
+        out[0] = timestamp;
+        1
     }
 }

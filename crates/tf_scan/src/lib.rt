@@ -1,6 +1,8 @@
 //! Scans: timestamps in one direction, of leaves and of their unions and intersections.
 #![tactic(auto)]
 
+mod buffer;
+mod buffered;
 mod direction;
 mod head;
 mod leaf;

@@ -4,6 +4,7 @@ ghost use Rattle.tf_scan.specs.Order.{IsInOrder};
 ghost use Rattle.tf_scan.specs.Node.{join_of, IsPartOf};
 
 mod reading;
+mod taking;
 
 use crate::head::Head;
 use crate::operation::Operation;
@@ -48,6 +49,7 @@ impl<P: Leaf, A: Allocator> Model for Node<P, A> {
 
 impl<P: Leaf, A: Allocator> Node<P, A> {
     /// A leaf, of which nothing is read yet.
+    #[inline(always)]
     pub(crate) fn leaf(leaf: P) -> Self
         ensures direction { result.direction ≡ P.direction leaf }
         ensures left { result.left ≡ P.left leaf }
@@ -62,6 +64,7 @@ impl<P: Leaf, A: Allocator> Node<P, A> {
     }
 
     /// A join of two parts of one direction, of which nothing is read yet.
+    #[inline(always)]
     pub(crate) fn join(
         operation: Operation,
         left: Box<Node<P, A>, A>,

@@ -1,5 +1,5 @@
 //! What is left of the tables of a row in a prefix, newest first.
-ghost use Rattle.std.specs.Prelude.{◌≡◌, ℕ, ◌≤◌, ◌++◌, length, min, take, drop, slice_get, Some};
+ghost use Rattle.std.specs.Prelude.{◌≡◌, ℕ, ◌≤◌, ◌<◌, ◌++◌, [], length, min, take, drop, slice_get, Some};
 ghost use Rattle.std.specs.List.{AllByRecursion, AllZip};
 ghost use Rattle.std.specs.Option.{option_copied, option_map};
 ghost use Rattle.tf_table.specs.Content.{entry_of};
@@ -62,13 +62,39 @@ pub(crate) fn take_into<V, A: Allocator>(
 {
     let mut taken = 0;
     while taken < out.len() {
-        let Some(timestamp) = next(direction, value, places, turn) else {
-            return taken;
-        };
-        out[taken] = timestamp;
-        taken = take_turn(direction, places, *turn, out, taken + 1);
+        let to = take_some(direction, value, places, turn, out, taken);
+        if to == taken {
+            return to;
+        }
+        taken = to;
     }
     taken
+}
+
+/// Moves the first timestamp at which the tables' content has the value to one place in `out`, and behind it what the place
+/// alone has next whose turn it is then, and tells the place behind the last. It moves none where none is left.
+///
+/// It searches no table that `next` wouldn't search.
+pub(crate) fn take_some<V, A: Allocator>(
+    direction: Direction,
+    value: u128,
+    places: &mut [Place<'_, V, A>],
+    turn: &mut Turn,
+    out: &mut [u64],
+    from: usize,
+) -> usize
+    requires room { from < length out.old }
+    requires right { AllByRecursion (IsPlace direction value) places.old }
+    requires turn { IsTurn direction turn.old places.old }
+    ensures moved { WritesPrefix direction value from result places.old places.new out.old out.new }
+    ensures turn { IsTurn direction turn.new places.new }
+    ensures none { result ≡ from → prefix_of direction value (lists_left direction value places.old) ≡ [] }
+{
+    let Some(timestamp) = next(direction, value, places, turn) else {
+        return from;
+    };
+    out[from] = timestamp;
+    take_turn(direction, places, *turn, out, from + 1)
 }
 
 /// Moves what the place has whose turn it is to `out`, from one place there on, and tells the place behind the last.

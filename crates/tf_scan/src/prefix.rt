@@ -114,4 +114,19 @@ impl<'r, V, A: Allocator> Leaf for Prefix<'r, V, A> {
             out,
         )
     }
+
+    /// The first timestamp, as `next` finds it, and what the same table's place alone has behind it.
+    fn take_some(&mut self, out: &mut [u64]) -> usize {
+        if out.is_empty() {
+            return 0;
+        }
+        places::take_some(
+            self.direction,
+            self.value,
+            self.places.as_mut_slice(),
+            &mut self.turn,
+            out,
+            0,
+        )
+    }
 }

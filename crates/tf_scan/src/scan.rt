@@ -5,6 +5,7 @@ ghost use Rattle.tf_scan.specs.Order.{IsInOrder, those_from};
 ghost use Rattle.tf_scan.specs.Sets.{is_among, union_of, intersection_of};
 ghost use Rattle.tf_scan.specs.Node.{join_of};
 
+use crate::buffered::Buffered;
 use crate::node::Node;
 use crate::operation::Operation;
 use crate::{Direction, Leaf};
@@ -15,10 +16,11 @@ use tf_records::Refusal;
 /// Timestamps in one direction, each once: those of a leaf, of a union or of an intersection of two scans.
 ///
 /// A contract sees a scan as its direction and the timestamps that are still to come. No leaf is read before the first
-/// `next` or `seek`, and of a union or an intersection no further than the next timestamp needs.
+/// `next` or `seek`, and of a union or an intersection no further than the next timestamp needs, but for what a leaf has at
+/// hand behind it: up to 16 timestamps of each leaf are kept.
 #[derive(Drop)]
 pub struct Scan<P: Leaf, A: Allocator> {
-    root: Node<P, A>,
+    root: Node<Buffered<P>, A>,
 }
 
 impl<P: Leaf, A: Allocator> Model for Scan<P, A> {
@@ -35,12 +37,13 @@ impl<P: Leaf, A: Allocator> Model for Scan<P, A> {
 
 impl<P: Leaf, A: Allocator> Scan<P, A> {
     /// The timestamps of a leaf. It takes no memory.
+    #[inline(always)]
     pub fn leaf(leaf: P) -> Self
         ensures direction { result.direction ≡ P.direction leaf }
         ensures left { result.left ≡ P.left leaf }
     {
         Scan {
-            root: Node::leaf(leaf),
+            root: Node::leaf(Buffered::new(leaf)),
         }
     }
 
@@ -48,6 +51,7 @@ impl<P: Leaf, A: Allocator> Scan<P, A> {
     /// refused. Both scans have one direction.
     ///
     /// Its `next` compares the first timestamps of the two, and takes it out of one of them, or out of both.
+    #[inline(always)]
     pub fn union(alloc: A, left: Self, right: Self) -> Result<Self, Refusal>
     where
         P: Drop,
@@ -68,6 +72,7 @@ impl<P: Leaf, A: Allocator> Scan<P, A> {
     ///
     /// In its `next` the scan that is behind seeks to the first timestamp of the other, until they meet. So where one
     /// has few timestamps, they cost about as many seeks in the other, however many that one has.
+    #[inline(always)]
     pub fn intersection(alloc: A, left: Self, right: Self) -> Result<Self, Refusal>
     where
         P: Drop,
@@ -84,6 +89,7 @@ impl<P: Leaf, A: Allocator> Scan<P, A> {
     }
 
     /// Both scans in a box each, joined.
+    #[inline]
     fn join(alloc: A, operation: Operation, left: Self, right: Self) -> Result<Self, Refusal>
     where
         P: Drop,
@@ -122,8 +128,8 @@ impl<P: Leaf, A: Allocator> Scan<P, A> {
     /// Moves the first timestamps to the front of `out`, in their order, until it is full or none is left, and tells how
     /// many those are. It takes no memory.
     ///
-    /// Of a leaf it moves as many at once as the leaf can, and those of a union or an intersection one by one. What it
-    /// gives is what as many calls of `next` would give.
+    /// Of a leaf it moves as many at once as the leaf can, of a union those of one part as long as they come before the
+    /// other's, and those of an intersection one by one. What it gives is what as many calls of `next` would give.
     pub fn take_into(&mut self, out: &mut [u64]) -> usize
         ensures count { result ≡ min (length out.old) (length self.old.left) }
         ensures moved { out.new ≡ take result self.old.left ++ drop result out.old }

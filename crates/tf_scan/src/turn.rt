@@ -21,10 +21,7 @@ impl Turn {
     pub(crate) fn has(self, direction: Direction, timestamp: u64) -> bool
         ensures { result ≡ is_past direction timestamp self.until }
     {
-        match self.until {
-            Some(until) => direction.is_before(timestamp, until),
-            None => true,
-        }
+        direction.is_past(timestamp, self.until)
     }
 
     /// The turn of a place with the nearest timestamp. It goes over the places once.

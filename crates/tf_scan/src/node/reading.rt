@@ -1,5 +1,5 @@
 //! How a part is read.
-ghost use Rattle.std.specs.Prelude.{◌≡◌, ◌++◌, length, min, take, drop, slice_get};
+ghost use Rattle.std.specs.Prelude.{◌≡◌, drop, slice_get};
 ghost use Rattle.tf_scan.specs.Order.{IsInOrder, those_from};
 ghost use Rattle.tf_scan.specs.Sets.{union_of, intersection_of};
 ghost use Rattle.tf_scan.specs.Node.{left_behind, height_of, IsKind, IsPartOf, KeepsPart};
@@ -13,6 +13,7 @@ use std::alloc::Allocator;
 impl<P: Leaf, A: Allocator> Node<P, A> {
     /// The first timestamp, which stays. It is read from what is below only where it wasn't read before.
     #[cycle(read)]
+    #[inline]
     pub(crate) fn peek(&mut self) -> Option<u64>
         ensures first { result ≡ slice_get self.old.left 0 }
         ensures same { self.new ≡ self.old }
@@ -33,6 +34,7 @@ impl<P: Leaf, A: Allocator> Node<P, A> {
 
     /// Takes out the first timestamp.
     #[cycle(read)]
+    #[inline]
     pub(crate) fn next(&mut self) -> Option<u64>
         ensures first { result ≡ slice_get self.old.left 0 }
         ensures others { self.new.left ≡ drop 1 self.old.left }
@@ -46,40 +48,6 @@ impl<P: Leaf, A: Allocator> Node<P, A> {
             Head::End => None,
             Head::Unread => read(self.direction, &mut self.kind),
         }
-    }
-
-    /// Moves the first timestamps to the front of `out`, until it is full or none is left, and tells how many those are.
-    /// A leaf moves its own at once.
-    pub(crate) fn take_into(&mut self, out: &mut [u64]) -> usize
-        ensures count { result ≡ min (length out.old) (length self.old.left) }
-        ensures moved { out.new ≡ take result self.old.left ++ drop result out.old }
-        ensures others { self.new.left ≡ drop result self.old.left }
-        ensures kept { KeepsPart self.old self.new }
-    {
-        match self.head {
-            Head::Unread => match &mut self.kind {
-                Kind::Leaf(leaf) => leaf.take_into(out),
-                Kind::Join(..) => self.take_each(out),
-            },
-            _ => self.take_each(out),
-        }
-    }
-
-    /// The same, one by one.
-    fn take_each(&mut self, out: &mut [u64]) -> usize
-        requires { IsInOrder self.old.direction self.old.left }
-        ensures count { result ≡ min (length out.old) (length self.old.left) }
-        ensures moved { out.new ≡ take result self.old.left ++ drop result out.old }
-        ensures others { self.new.left ≡ drop result self.old.left }
-        ensures kept { KeepsPart self.old self.new }
-    {
-        for taken in 0..out.len() {
-            match self.next() {
-                Some(timestamp) => out[taken] = timestamp,
-                None => return taken,
-            }
-        }
-        out.len()
     }
 
     /// Takes out the timestamps before this one. Nothing below is asked where the first one stays.

@@ -264,6 +264,24 @@ fn assert_few_searched<N: Naming>(
     Ok(())
 }
 
+/// What is at hand behind the first timestamp searches no table but that timestamp's.
+fn assert_some_search_one<N: Naming>(
+    rt: &impl Abort,
+    tables: &Tables<'_, (), Global, N>,
+    direction: Direction,
+) {
+    let mut prefix = Prefix::new(tables, 1, direction);
+    prefix.seek(1_095);
+    let closed = count_closed(&prefix);
+    let mut room = [0u64; 10];
+    let wanted = match direction {
+        Direction::Rising => 5,
+        Direction::Falling => 10,
+    };
+    assert_eq!(rt; prefix.take_some(&mut room), wanted);
+    assert_eq!(rt; closed.saturating_sub(count_closed(&prefix)), 1);
+}
+
 fn few_timestamps<N: Naming>(
     rt: &(impl Abort + AllocGlobal + Wait),
     registry: &Registry<(), Global>,
@@ -275,6 +293,7 @@ fn few_timestamps<N: Naming>(
         for is_moved in [false, true] {
             assert_few_searched(rt, &tables, direction, is_moved)?;
         }
+        assert_some_search_one(rt, &tables, direction);
     }
     Ok(())
 }

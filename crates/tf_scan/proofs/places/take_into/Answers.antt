@@ -1,33 +1,45 @@
-use Rattle.std.proofs.Common.{arith}
-use Rattle.tf_scan.proofs.Moves.{moved-none, moved-next, moved-run, moved-list, moved-rest, moved-full, moved-all, moved-end}
+use Rattle.std.proofs.Common.{◌≡◌, [], arith, ap, sym, ◌∙◌}
+use Rattle.std.specs.Prelude.{slice_get}
+use Rattle.tf_scan.specs.Place.{lists_left}
+use Rattle.tf_scan.specs.Prefix.{prefix_of}
+use Rattle.tf_scan.proofs.Moves.{HasMoved, moved-none, moved-run, moved-list, moved-rest, moved-full, moved-all, none-behind}
+use Rattle.tf_scan.proofs.places.take_into.Given as given
 use Rattle.tf_scan.proofs.places.take_into.Goals as goal
 
 pub loop-taken-init : goal.loop-taken-init
 loop-taken-init g c = record { right = c.requires.right; turn = c.requires.turn; moved = moved-none _ _ }
 
 pub loop-taken-smaller : goal.loop-taken-smaller
-loop-taken-smaller g c =
-    let run = c.take_turn-taken.ensures.moved c.args.value c.next.ensures.right in
-    omega (arith, run.written.count)
+loop-taken-smaller g c = omega (arith, c.take_some-to.ensures.moved.written.count)
 
 pub loop-taken-preserved : goal.loop-taken-preserved
 loop-taken-preserved g c =
-    let run = c.take_turn-taken.ensures.moved c.args.value c.next.ensures.right in
-    let one = moved-next _ _ _ _ _ c.loop-taken.invariant.moved _ c.in-Some.timestamp c.in-Some.ensures.first c.next.ensures.others (omega arith) in
+    let run = c.take_some-to.ensures.moved in
     record {
       right = run.right;
-      turn = c.take_turn-taken.ensures.turn;
-      moved = moved-run _ _ _ _ _ one run.ts _ _ _ run.front run.written;
+      turn = c.take_some-to.ensures.turn;
+      moved = moved-run _ _ _ _ _ c.loop-taken.invariant.moved run.ts _ _ _ run.front run.written;
     }
 
-pub returns-in_default-clause-count : goal.returns-in_default-clause-count
-returns-in_default-clause-count g c = moved-all _ _ _ _ _ c.loop-taken.invariant.moved c.in_default.ensures.first
+-- the last timestamps were moved
+ended : (g : given.Over) (c : goal.Then-to-taken g)
+    → HasMoved (prefix_of c.args.direction c.args.value (lists_left c.args.direction c.args.value c.args.places.now)) (prefix_of c.args.direction c.args.value (lists_left c.args.direction c.args.value c.take_some-to.new.places)) c.take_some-to.result c.args.out.now c.take_some-to.new.out
+ended g c =
+    let run = c.take_some-to.ensures.moved in
+    moved-run _ _ _ _ _ c.loop-taken.invariant.moved run.ts _ _ _ run.front run.written
 
-pub returns-in_default-clause-moved : goal.returns-in_default-clause-moved
-returns-in_default-clause-moved g c = moved-list _ _ _ _ _ c.loop-taken.invariant.moved
+pub returns-then-to-taken-clause-count : goal.returns-then-to-taken-clause-count
+returns-then-to-taken-clause-count g c =
+    let run = c.take_some-to.ensures.moved in
+    let left = prefix_of c.args.direction c.args.value (lists_left c.args.direction c.args.value c.take_some-to.new.places) in
+    let none : left ≡ [] = none-behind run.ts left (sym (c.take_some-to.ensures.none (omega arith)) ∙ run.front) in
+    moved-all _ _ _ _ _ (ended g c) (ap (λ ts. slice_get ts 0) (sym none))
 
-pub returns-in_default-clause-others : goal.returns-in_default-clause-others
-returns-in_default-clause-others g c = moved-end _ _ _ _ _ c.loop-taken.invariant.moved _ c.in_default.ensures.first c.next.ensures.others
+pub returns-then-to-taken-clause-moved : goal.returns-then-to-taken-clause-moved
+returns-then-to-taken-clause-moved g c = moved-list _ _ _ _ _ (ended g c)
+
+pub returns-then-to-taken-clause-others : goal.returns-then-to-taken-clause-others
+returns-then-to-taken-clause-others g c = moved-rest _ _ _ _ _ (ended g c)
 
 pub returns-clause-count : goal.returns-clause-count
 returns-clause-count g c = moved-full _ _ _ _ _ c.loop-taken.invariant.moved (omega arith)

@@ -1,9 +1,10 @@
-use Rattle.std.proofs.Common.{◌++◌, sym, ◌∙◌, ap, subst, length, min, take, drop}
+use Rattle.std.proofs.Common.{◌≡◌, ◌++◌, sym, ◌∙◌, ap, subst, length, min, take, drop}
 use Rattle.tf_scan.specs.Part.{Part}
 use Rattle.tf_scan.specs.Order.{IsInOrder}
-use Rattle.tf_scan.specs.Node.{with_head, height_of, IsKind, IsHead}
+use Rattle.tf_scan.specs.Node.{left_behind, with_head, height_of, IsKind, IsHead}
 use Rattle.tf_scan.proofs.Order.{in_order-rest}
 use Rattle.tf_scan.proofs.Nodes.{in_order-node, keeps, leaf-left}
+use Rattle.tf_scan.proofs.Unions.{join-kept}
 use Rattle.tf_scan.proofs.node.Node.take_into.Goals as goal
 
 pub invariant_of-self : goal.invariant_of-self
@@ -34,8 +35,20 @@ returns-in-Leaf-clause-kept g c =
     keeps c.args.self.now _ _ _ (ap (λ (p : Part). p.direction) c.self.view_is) (sym (ap height_of c.in-Leaf.is) ∙ ap (λ (p : Part). p.height) c.self.view_is)
     (subst (IsInOrder c.self.inside.direction) (sym (shown ∙ c.take_into.ensures.others)) (in_order-rest _ _ _ below.1))
 
+pub returns-in-Join-Union-default-default-clause-kept : goal.returns-in-Join-Union-default-default-clause-kept
+returns-in-Join-Union-default-default-clause-kept g c =
+    let join = c.in-Join-Union-default-default in
+    let d = c.self.inside.direction in
+    let head = c.self.inside.head in
+    let below = subst (IsKind g.P.Leaf.direction g.P.Leaf.left d) join.is c.self.invariant.below in
+    join-kept d head join.field-0 c.args.self.now join.left.value join.right.value c.deref_mut.result.now c.deref_mut-in-Join-Union-default-default.result.now c.take_union.new.left c.take_union.new.right below.0 below.1
+    c.deref_mut.ensures.value c.deref_mut-in-Join-Union-default-default.ensures.value c.take_union.ensures.left c.take_union.ensures.right c.in-Unread.is
+    (subst (λ k. record { direction = d; left = with_head head (left_behind g.P.Leaf.left d k); height = height_of k } ≡ c.args.self.now) join.is c.self.view_is)
+
 pub take_each-requires : goal.take_each-requires
-take_each-requires g c = in_order-node g.P.Leaf.direction g.P.Leaf.left c.self.inside.direction c.self.inside.head c.self.inside.kind c.self.invariant
+take_each-requires g c =
+    subst (λ k. IsInOrder c.self.inside.direction (with_head c.self.inside.head (left_behind g.P.Leaf.left c.self.inside.direction k))) c.in-Join.is
+    (in_order-node g.P.Leaf.direction g.P.Leaf.left c.self.inside.direction c.self.inside.head c.self.inside.kind c.self.invariant)
 
 pub take_each-requires-in_default : goal.take_each-requires-in_default
 take_each-requires-in_default g c = subst (λ (p : Part). IsInOrder p.direction p.left) c.self.view_is (in_order-node g.P.Leaf.direction g.P.Leaf.left c.self.inside.direction c.self.inside.head c.self.inside.kind c.self.invariant)
