@@ -5,7 +5,7 @@ use Rattle.std.specs.Option.{option_to_list}
 use Rattle.std.proofs.lemmas.List.{take_more}
 use Rattle.std.proofs.lemmas.List.Elements.{filter_map-append}
 
-found-one : {X Y : Type 0} (f : X → Option Y) (x : X) (o : Option Y) → o ≡ f x → filter_map f (x ∷ []) ≡ option_to_list o
+pub found-one : {X Y : Type 0} (f : X → Option Y) (x : X) (o : Option Y) → o ≡ f x → filter_map f (x ∷ []) ≡ option_to_list o
 found-one f x None e = rw (sym e) refl
 found-one f x (Some y) e = rw (sym e) refl
 

@@ -15,3 +15,6 @@ pub mod Narrowing
 pub mod Found
 pub mod Testing
 pub mod Finding
+pub mod Ahead
+pub mod Summed
+pub mod Walking

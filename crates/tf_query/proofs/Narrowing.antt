@@ -1,8 +1,8 @@
 -- Conditions that are met one after another.
-use Rattle.std.proofs.Common.{◌≡◌, ◌∙◌, sym, refl, ap, ℕ, ◌+◌, ◌<◌, Bool, true, false, not, ◌&&◌, ◌||◌, List, take, length, get_or}
+use Rattle.std.proofs.Common.{◌≡◌, ◌∙◌, sym, refl, ap, ℕ, ◌+◌, ◌<◌, Bool, true, false, not, ◌&&◌, ◌||◌, List, [], ◌∷◌, take, length, get_or}
 use Rattle.std.specs.Prelude.{nat_eq}
 use Rattle.std.specs.List.{list_all}
-use Rattle.std.proofs.lemmas.Bool.{ne_eqb}
+use Rattle.std.proofs.lemmas.Bool.{and_parts, ne_eqb}
 use Rattle.std.proofs.lemmas.List.Folds.{list_all_more}
 
 and-true : (b : Bool) → (b && true) ≡ b
@@ -16,6 +16,15 @@ unasked v b h e = rw e (sym (and-true b))
 -- else what the index has
 pub asked : (v : ℕ) (h : Bool) → (v ≡ 0 → ⊥) → h ≡ (nat_eq v 0 || h)
 asked v h e = rw (ne_eqb v 0 e) refl
+
+-- and whether there is a scan then
+pub none-more : (v : ℕ) (b : Bool) → v ≡ 0 → b ≡ (b || not (nat_eq v 0))
+none-more v true e = refl
+none-more v false e = rw e refl
+
+pub some-more : (v : ℕ) (b : Bool) → (v ≡ 0 → ⊥) → true ≡ (b || not (nat_eq v 0))
+some-more v true e = refl
+some-more v false e = rw (ne_eqb v 0 e) refl
 
 and-assoc : (a b c : Bool) → ((a && b) && c) ≡ (a && (b && c))
 and-assoc true b c = refl
@@ -34,3 +43,16 @@ one-met p xs i d new old first h e f =
 pub one-asked : {X : Type 0} (p : X → Bool) (xs : List X) (i : ℕ) (d : X) (new old first : Bool) → i < length xs → new ≡ (old || not (p (get_or xs i d))) → old ≡ (first || not (list_all p (take i xs))) → new ≡ (first || not (list_all p (take (i + 1) xs)))
 one-asked p xs i d new old first h e f =
     e ∙ ap (λ b. b || not (p (get_or xs i d))) f ∙ or-not first (list_all p (take i xs)) (p (get_or xs i d)) ∙ ap (λ b. first || not b) (sym (list_all_more p xs i d h))
+
+-- where each condition asks for nothing, each is met
+all-met : {X : Type 0} (nothing met : X → Bool) (xs : List X) → ((x : X) → nothing x ≡ true → met x ≡ true) → list_all nothing xs ≡ true → list_all met xs ≡ true
+all-met nothing met [] h e = refl
+all-met nothing met (x ∷ xs) h e =
+    let parts = and_parts (nothing x) (list_all nothing xs) e in
+    rw (h x parts.0) (all-met nothing met xs h parts.1)
+
+pub none-asked : {X : Type 0} (nothing met : X → Bool) (xs : List X) (b : Bool) → ((x : X) → nothing x ≡ true → met x ≡ true) → list_all nothing xs ≡ true → b ≡ (b && list_all met xs)
+none-asked nothing met xs b h e = rw (all-met nothing met xs h e) (sym (and-true b))
+
+pub zero-met : (v : ℕ) (h : Bool) → nat_eq v 0 ≡ true → (nat_eq v 0 || h) ≡ true
+zero-met v h e = rw e refl

@@ -17,7 +17,7 @@ use Rattle.tf_query.proofs.Found.{more-found}
 
 module _ {X : Type 0} where
   -- what is cut off is cut off again
-  take-taken : (n : ℕ) (xs ys : List X) → take n (take n xs ++ ys) ≡ take n (xs ++ ys)
+  pub take-taken : (n : ℕ) (xs ys : List X) → take n (take n xs ++ ys) ≡ take n (xs ++ ys)
   take-taken zero xs ys = refl
   take-taken (suc n) [] ys = refl
   take-taken (suc n) (x ∷ xs) ys = ap (λ zs. x ∷ zs) (take-taken n xs ys)

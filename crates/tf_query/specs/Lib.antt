@@ -8,3 +8,5 @@ pub mod Reading
 pub mod Residual
 pub mod Version
 pub mod Finder
+pub mod History
+pub mod Walk

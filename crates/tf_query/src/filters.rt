@@ -9,13 +9,13 @@ ghost use Rattle.tf_query.specs.Asked.{account_fields_at, account_filter_at, tra
 ghost use Rattle.tf_query.specs.Residual.{AreFirstPassing, account_lead, account_residual, query_lead, query_residual};
 ghost use Rattle.tf_query.specs.Windows.{AreFirst, account_window, query_window};
 
-use crate::condition::{account_conditions, field_conditions, transfer_conditions};
+use crate::condition::{account_conditions, transfer_conditions};
 use crate::laws::leads_answer_filters;
 use crate::leading::{tested_of_account_filter, tested_of_query_filter};
 use crate::passing::passing_within;
 use crate::reads::{accounts_at, transfers_at};
 use crate::residual::{Residual, Tested, account_lead, query_lead};
-use crate::scans::{narrowed, object_scan, sides};
+use crate::scans::{account_scan, narrowed, object_scan};
 use crate::scans_answer_filters;
 use crate::timestamps::timestamps_within;
 use crate::window::Window;
@@ -35,19 +35,8 @@ pub fn account_timestamps<A: Allocator, N: Naming, B: Allocator + Copy>(
     ensures refusal { IfErr result (λ refusal. refusal ≡ Refusal.NoMemory) }
 {
     let window = Window::of_account_filter(filter);
-    let both = match sides(alloc, manifest, window.direction, filter) {
-        Ok(both) => both,
-        Err(refusal) => return Err(refusal),
-    };
-    match narrowed(
-        alloc,
-        manifest,
-        window.direction,
-        Some(both),
-        &field_conditions(filter),
-    ) {
-        Ok(Some(mut scan)) => timestamps_within(alloc, &mut scan, &window),
-        Ok(None) => unreachable!(),
+    match account_scan(alloc, manifest, window.direction, filter) {
+        Ok(mut scan) => timestamps_within(alloc, &mut scan, &window),
         Err(refusal) => Err(refusal),
     }
 }
@@ -120,19 +109,9 @@ fn tested_account_transfers<A: Allocator, N: Naming, B: Allocator + Copy>(
 {
     let window = Window::of_account_filter(filter);
     let residual = Residual::of_account_filter(tested, filter);
-    let both = match sides(alloc, manifest, window.direction, filter) {
-        Ok(both) => both,
-        Err(refusal) => return Err(refusal),
-    };
-    match narrowed(
-        alloc,
-        manifest,
-        window.direction,
-        Some(both),
-        &field_conditions(&account_lead(tested, filter)),
-    ) {
-        Ok(Some(mut scan)) => passing_within(alloc, manifest, &residual, &mut scan, &window),
-        Ok(None) => unreachable!(),
+    let lead = account_lead(tested, filter);
+    match account_scan(alloc, manifest, window.direction, &lead) {
+        Ok(mut scan) => passing_within(alloc, manifest, &residual, &mut scan, &window),
         Err(refusal) => Err(refusal),
     }
 }

@@ -13,7 +13,7 @@ use tf_table::{Key, Span};
 
 /// A part of time, with both ends. There is none where the first comes after the last.
 #[derive(Clone, Copy)]
-struct Part {
+pub struct Part {
     first: u64,
     last: u64,
 }
@@ -29,7 +29,7 @@ impl Part {
 
     /// Whether a timestamp lies in it.
     #[inline]
-    fn has(self, timestamp: u64) -> bool
+    pub fn has(self, timestamp: u64) -> bool
         ensures { IsTrue result → IsInPart self timestamp }
     {
         self.first <= timestamp && timestamp <= self.last
@@ -129,7 +129,7 @@ impl<'t, 'r, V: RowValue, A: Allocator, N: Naming> Finder<'t, 'r, V, A, N> {
 
 /// The place of the newest table that has a key, the part of time around the key in which no newer one has anything, and the
 /// key's entry.
-fn newest<'r, V: RowValue, A: Allocator, N: Naming>(
+pub fn newest<'r, V: RowValue, A: Allocator, N: Naming>(
     references: &[TableRef<'r, V, A, N>],
     key: &Key,
 ) -> Option<(usize, Part, Option<&'r V>)>

@@ -17,6 +17,7 @@ ghost use Rattle.tf_manifest.specs.Rows.{has_history, state_of};
 ghost use Rattle.tf_manifest.specs.View.{View, ShowsJournal};
 ghost use Rattle.tf_query.specs.Asked.{account_fields_at, account_filter_at, transfer_fields_at};
 ghost use Rattle.tf_query.specs.Fields.{account_field, has_value, transfer_field};
+ghost use Rattle.tf_query.specs.History.{has_sums, history_at};
 ghost use Rattle.tf_query.specs.Matches.{AreDated, account_timestamp, direction_of, holds_at, matches_of, record_at, transfer_timestamp};
 ghost use Rattle.tf_query.specs.Reads.{account_in, account_stamp_in, balance_in, has_entry, is_on_side, shown_in, state_in, transfer_in, transfer_stamp_in};
 ghost use Rattle.tf_query.specs.declared.residual.Tested.{Tested};
@@ -76,6 +77,17 @@ pub fn rows_give_records()
 {
     rows_are_maps();
     // Each record stands under its timestamp, and so do its state and its balances.
+}
+
+/// The row of sums has something of an account with history at the timestamps of the transfers on one of its sides, and
+/// nowhere else. So it has those that a filter asks for which names both sides and no field. Does nothing.
+pub fn sums_date_history()
+    ensures sides { (view : View) (journal : List Entry) → IsSound journal → ShowsJournal view journal → (id : ℕ) → has_history journal id ≡ true → (t : ℕ) → has_sums view id t ≡ holds_at transfer_timestamp (is_on_side id) (transfers_of journal) t }
+    ensures asked { (view : View) (journal : List Entry) → IsSound journal → ShowsJournal view journal → (filter : AccountFilter) → has_history journal filter.account_id ≡ true → (t : ℕ) → history_at view filter t ≡ account_filter_at view filter t }
+{
+    records_are_dated();
+    rows_index_records();
+    // The row has a pair for each side of a transfer whose account has history, under its id and the transfer's timestamp.
 }
 
 /// What tables have under an id: the timestamp of its record, under which they have the record. Does nothing.

@@ -6,6 +6,7 @@
 //! code that is asked for beside something that leads to fewer is left out there, and tested on the records.
 #![tactic(auto)]
 
+mod balances;
 mod condition;
 mod filters;
 mod finder;
@@ -19,10 +20,12 @@ mod residual;
 mod scans;
 mod timestamps;
 mod version;
+mod walk;
 mod window;
 
 pub use laws::{
     lists_in_order_are_unique, manifests_spell_their_journal, records_are_dated, rows_find_ids,
     rows_give_records, rows_index_records, scans_answer_filters, scans_list_matches,
+    sums_date_history,
 };
 pub use version::Version;

@@ -1,5 +1,5 @@
 //! Look-ups of ids, read from a manifest that shows a journal.
-ghost use Rattle.std.specs.Prelude.{◌≡◌, List, Err, Ok, filter_map, length, vec_capacity, IfErr, IfOk, MatchOption};
+ghost use Rattle.std.specs.Prelude.{◌≡◌, ◌≤◌, List, Err, Ok, filter_map, length, map, take, vec_capacity, IfErr, IfOk, MatchOption};
 ghost use Rattle.std.specs.Option.{option_and_then, option_copied};
 ghost use Rattle.tf_journal.specs.declared.entry.Entry.{Entry};
 ghost use Rattle.tf_journal.specs.Answer.{lookup_refusal, looked_up_accounts, looked_up_transfers};
@@ -7,7 +7,9 @@ ghost use Rattle.tf_journal.specs.Lawful.{IsSound};
 ghost use Rattle.tf_manifest.specs.View.{ShowsJournal};
 ghost use Rattle.tf_query.specs.Reads.{account_in, account_stamp_in, shown_in, transfer_in, transfer_stamp_in};
 
-use crate::reads::{account_at, key_of, push_found, push_record, stored_account_at, transfer_at};
+use crate::reads::{
+    AHEAD, account_at, key_of, push_found, push_records, stored_account_at, transfer_at,
+};
 use crate::rows_find_ids;
 use std::alloc::Allocator;
 use tf_manifest::{IdStamp, Manifest, Naming};
@@ -50,15 +52,46 @@ fn account<A: Allocator, N: Naming>(manifest: &Manifest<'_, A, N>, id: u128) -> 
     account_at(manifest, timestamp)
 }
 
-/// The transfer with this id, where its table has it: two look-ups in rows.
-fn transfer<'r, A: Allocator, N: Naming>(
-    manifest: &Manifest<'r, A, N>,
-    id: u128,
-) -> Option<&'r Transfer>
-    ensures { option_copied result ≡ option_and_then (transfer_in manifest.now) (transfer_stamp_in manifest.now id) }
+/// The timestamps of the transfers with these ids, each in the place of its id.
+fn transfer_stamps<A: Allocator, N: Naming>(
+    manifest: &Manifest<'_, A, N>,
+    ids: &[u128],
+) -> [Option<u64>; AHEAD]
+    requires { length ids.now ≤ 16 }
+    ensures { take (length ids.now) result ≡ map (transfer_stamp_in manifest.now) ids.now }
 {
-    let timestamp = transfer_stamp(manifest, id)?;
-    transfer_at(manifest, timestamp)
+    let mut stamps = [None; AHEAD];
+    for place in 0..ids.len() {
+        stamps[place] = transfer_stamp(manifest, ids[place]);
+    }
+    stamps
+}
+
+/// The transfer with the timestamp that was found, where its table has it.
+fn stamped_transfer<'r, A: Allocator, N: Naming>(
+    manifest: &Manifest<'r, A, N>,
+    stamp: Option<u64>,
+) -> Option<&'r Transfer>
+    ensures { option_copied result ≡ option_and_then (transfer_in manifest.now) stamp }
+{
+    transfer_at(manifest, stamp?)
+}
+
+/// The transfers with these ids, each in the place of its id, where its table has it: two look-ups in rows for each of them.
+/// All timestamps are looked up before the first of the transfers, so that many of these come from far memory at once.
+fn transfers_ahead<'r, A: Allocator, N: Naming>(
+    manifest: &Manifest<'r, A, N>,
+    ids: &[u128],
+) -> [Option<&'r Transfer>; AHEAD]
+    requires { length ids.now ≤ 16 }
+    ensures { map option_copied (take (length ids.now) result) ≡ map (λ id. option_and_then (transfer_in manifest.now) (transfer_stamp_in manifest.now id)) ids.now }
+{
+    let stamps = transfer_stamps(manifest, ids);
+    let mut found = [None; AHEAD];
+    for place in 0..ids.len() {
+        found[place] = stamped_transfer(manifest, stamps[place]);
+    }
+    found
 }
 
 /// Refuses too many ids of a look-up.
@@ -99,8 +132,12 @@ fn transfers<A: Allocator, N: Naming, B: Allocator>(
     ensures refusal { IfErr result (λ refusal. refusal ≡ Refusal.NoMemory) }
 {
     let mut rows = Vec::with_capacity(alloc, ids.len())?;
-    for id in ids {
-        push_record(&mut rows, transfer(manifest, *id));
+    let mut rest = ids;
+    while !rest.is_empty() {
+        let (part, others) = rest.split_at(rest.len().min(AHEAD));
+        let found = transfers_ahead(manifest, part);
+        push_records(&mut rows, &found[..part.len()]);
+        rest = others;
     }
     Ok(rows)
 }

@@ -1,14 +1,14 @@
 //! What tables have at timestamps.
-ghost use Rattle.std.specs.Prelude.{◌≡◌, ◌+◌, ◌<◌, ◌≤◌, ◌++◌, filter_map, length, vec_capacity, vec_len, IfErr, IfOk};
+ghost use Rattle.std.specs.Prelude.{◌≡◌, ◌+◌, ◌<◌, ◌≤◌, ◌++◌, filter_map, length, map, take, vec_capacity, vec_len, IfErr, IfOk};
 ghost use Rattle.std.specs.Option.{option_copied, option_to_list};
 ghost use Rattle.tf_manifest.specs.Row.{content_at};
 ghost use Rattle.tf_manifest.specs.Rows.{key_of};
-ghost use Rattle.tf_query.specs.Reads.{account_in, balance_in, shown_by, shown_in, state_in, stored_record, sums_in, transfer_in};
+ghost use Rattle.tf_query.specs.Reads.{account_in, shown_by, shown_in, state_in, stored_record, transfer_in};
 
 use crate::finder::Finder;
 use std::alloc::Allocator;
-use tf_manifest::{Manifest, Naming, Near, State, Stored};
-use tf_records::{Account, AccountBalance, Refusal, Sums, Transfer};
+use tf_manifest::{Manifest, Naming, State, Stored};
+use tf_records::{Account, Refusal, Transfer};
 use tf_table::Key;
 
 /// The key of a value and a timestamp.
@@ -50,21 +50,6 @@ pub fn state_at<'r, A: Allocator, N: Naming>(
     manifest.states.row(0).find(&key_of(0, timestamp))
 }
 
-/// The sums of an account right after the transfer with this timestamp, where their table has them. It looks from where the
-/// last ones stand.
-fn sums_at<'r, A: Allocator, N: Naming>(
-    manifest: &Manifest<'r, A, N>,
-    account_id: u128,
-    timestamp: u64,
-    near: &mut Near,
-) -> Option<&'r Sums>
-    ensures { option_copied result ≡ sums_in manifest.now account_id timestamp }
-{
-    let key = key_of(account_id, timestamp);
-    let stored = manifest.sums.row(0).find_near(&key, near)?;
-    Some(&stored.record)
-}
-
 /// A stored account as answers show it: with its balances, and marked as closed where it is.
 pub fn shown(stored: &Account, state: &State) -> Account
     ensures { result ≡ shown_by stored.now state.now }
@@ -94,26 +79,6 @@ pub fn account_at<A: Allocator, N: Naming>(
     let stored = stored_account_at(manifest, timestamp)?;
     let state = state_at(manifest, timestamp)?;
     Some(shown(stored, state))
-}
-
-/// The balances of an account right after the transfer with this timestamp.
-fn balance_at<A: Allocator, N: Naming>(
-    manifest: &Manifest<'_, A, N>,
-    account_id: u128,
-    timestamp: u64,
-    near: &mut Near,
-) -> Option<AccountBalance>
-    ensures { result ≡ balance_in manifest.now account_id timestamp }
-{
-    let sums = sums_at(manifest, account_id, timestamp, near)?;
-    Some(AccountBalance {
-        debits_pending: sums.debits_pending,
-        debits_posted: sums.debits_posted,
-        credits_pending: sums.credits_pending,
-        credits_posted: sums.credits_posted,
-        timestamp,
-        reserved: [0; 56],
-    })
 }
 
 /// Puts what was found at the end of the rows, which have room for it.
@@ -152,6 +117,38 @@ pub fn found_transfer<'r, A: Allocator, N: Naming>(
     Some(&stored.record)
 }
 
+/// How many transfers are found before the first of them is copied. Each lies far from the others in memory, from which many
+/// come at once where none is waited for.
+pub const AHEAD: usize = 16;
+
+/// The transfers with these timestamps, each in the place of its timestamp, where its table has it.
+pub fn find_transfers<'r, A: Allocator, N: Naming>(
+    transfers: &mut Finder<'_, 'r, Stored<Transfer>, A, N>,
+    timestamps: &[u64],
+) -> [Option<&'r Transfer>; AHEAD]
+    requires { length timestamps.now ≤ 16 }
+    ensures found { map option_copied (take (length timestamps.now) result) ≡ map (λ t. stored_record (content_at (key_of 0 t) transfers.old)) timestamps.now }
+    ensures same { transfers.new ≡ transfers.old }
+{
+    let mut found = [None; AHEAD];
+    for place in 0..timestamps.len() {
+        found[place] = found_transfer(transfers, timestamps[place]);
+    }
+    found
+}
+
+/// Puts copies of the records that were found at the end of the rows, which have room for them.
+pub fn push_records<T: Copy + Drop, B: Allocator>(rows: &mut Vec<T, B>, found: &[Option<&T>])
+    requires { vec_len rows.old + length found.now ≤ vec_capacity rows.old }
+    ensures items { rows.new.items ≡ rows.old.items ++ filter_map option_copied found.now }
+    ensures len { vec_len rows.new ≤ vec_len rows.old + length found.now }
+    ensures room { vec_capacity rows.new ≡ vec_capacity rows.old }
+{
+    for record in found {
+        push_record(rows, *record);
+    }
+}
+
 /// The transfers with these timestamps. Room for them is made once, and `NoMemory` is the only refusal.
 pub fn transfers_at<A: Allocator, N: Naming, B: Allocator>(
     alloc: B,
@@ -164,8 +161,12 @@ pub fn transfers_at<A: Allocator, N: Naming, B: Allocator>(
 {
     let mut rows = Vec::with_capacity(alloc, timestamps.len())?;
     let mut transfers = Finder::new(manifest.transfers.row(0));
-    for timestamp in timestamps {
-        push_record(&mut rows, found_transfer(&mut transfers, *timestamp));
+    let mut rest = timestamps;
+    while !rest.is_empty() {
+        let (part, others) = rest.split_at(rest.len().min(AHEAD));
+        let found = find_transfers(&mut transfers, part);
+        push_records(&mut rows, &found[..part.len()]);
+        rest = others;
     }
     Ok(rows)
 }
@@ -183,27 +184,6 @@ pub fn accounts_at<A: Allocator, N: Naming, B: Allocator>(
     let mut rows = Vec::with_capacity(alloc, timestamps.len())?;
     for timestamp in timestamps {
         push_found(&mut rows, account_at(manifest, *timestamp));
-    }
-    Ok(rows)
-}
-
-/// The balances of an account right after the transfers with these timestamps, made as `transfers_at` makes its rows. Where
-/// the timestamps rise or fall, each is found in few looks from the one before it.
-pub fn balances_at<A: Allocator, N: Naming, B: Allocator>(
-    alloc: B,
-    manifest: &Manifest<'_, A, N>,
-    account_id: u128,
-    timestamps: &[u64],
-) -> Result<Vec<AccountBalance, B>, Refusal>
-    ensures ok { IfOk result (λ rows. rows.items ≡ filter_map (balance_in manifest.now account_id) timestamps.now) }
-    ensures room { IfOk result (λ rows. vec_capacity rows ≡ length timestamps.now) }
-    ensures refusal { IfErr result (λ refusal. refusal ≡ Refusal.NoMemory) }
-{
-    let mut rows = Vec::with_capacity(alloc, timestamps.len())?;
-    let mut near = Near::new();
-    for timestamp in timestamps {
-        let found = balance_at(manifest, account_id, *timestamp, &mut near);
-        push_found(&mut rows, found);
     }
     Ok(rows)
 }

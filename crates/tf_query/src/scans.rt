@@ -4,12 +4,12 @@ ghost use Rattle.std.specs.List.{list_all};
 ghost use Rattle.tf_journal.specs.Filter.{asks_credits, asks_debits};
 ghost use Rattle.tf_manifest.specs.Row.{content_at};
 ghost use Rattle.tf_manifest.specs.Rows.{key_of};
-ghost use Rattle.tf_query.specs.Asked.{meets_at, side_at};
-ghost use Rattle.tf_query.specs.Conditions.{asks_nothing, is_left, meets_all};
+ghost use Rattle.tf_query.specs.Asked.{account_filter_at, meets_at, side_at};
+ghost use Rattle.tf_query.specs.Conditions.{asks_nothing, field_conditions, is_left, meets_all};
 ghost use Rattle.tf_query.specs.Reads.{has_entry};
 ghost use Rattle.tf_scan.specs.Sets.{is_among};
 
-use crate::condition::Condition;
+use crate::condition::{Condition, field_conditions};
 use std::alloc::Allocator;
 use tf_manifest::{Manifest, Naming, RowValue, Tables, UnitRow};
 use tf_records::{AccountFilter, Refusal};
@@ -42,30 +42,21 @@ pub fn object_scan<'r, V: RowValue, A: Allocator, N: Naming, B: Allocator>(
     Scan::leaf(Prefix::new(objects, 0, direction))
 }
 
-/// What is left of a scan, or of all timestamps, where a condition has to be met. `NoMemory` is the only refusal.
-fn narrowed_by<'r, A: Allocator, N: Naming, B: Allocator + Copy>(
+/// Those timestamps of a scan that are left in another one, or all of them where there is no other. `NoMemory` is the only
+/// refusal.
+fn narrowed_by<'r, A: Allocator, B: Allocator + Copy>(
     alloc: B,
-    manifest: &Manifest<'r, A, N>,
-    direction: Direction,
-    scan: Option<IndexScan<'r, A, B>>,
-    condition: Condition,
-) -> Result<Option<IndexScan<'r, A, B>>, Refusal>
-    requires { IfSome scan (λ s. s.direction ≡ direction) }
-    ensures direction { IfOk result (λ narrowed. IfSome narrowed (λ s. s.direction ≡ direction)) }
-    ensures some { IfOk result (λ narrowed. is_some narrowed ≡ (is_some scan.entry || not (asks_nothing condition))) }
-    ensures members { IfOk result (λ narrowed. (t : ℕ) → is_left t narrowed ≡ (is_left t scan.entry && meets_at manifest.now condition.row condition.value t)) }
+    left: Option<IndexScan<'r, A, B>>,
+    scan: IndexScan<'r, A, B>,
+) -> Result<IndexScan<'r, A, B>, Refusal>
+    requires { IfSome left (λ s. s.direction ≡ scan.direction) }
+    ensures direction { IfOk result (λ narrowed. narrowed.direction ≡ scan.entry.direction) }
+    ensures members { IfOk result (λ narrowed. (t : ℕ) → is_among t narrowed.left ≡ (is_left t left.entry && is_among t scan.entry.left)) }
     ensures refusal { IfErr result (λ refusal. refusal ≡ Refusal.NoMemory) }
 {
-    if condition.value == 0 {
-        return Ok(scan);
-    }
-    let other = index_scan(manifest, direction, condition.row, condition.value);
-    match scan {
-        Some(scan) => match Scan::intersection(alloc, scan, other) {
-            Ok(narrowed) => Ok(Some(narrowed)),
-            Err(refusal) => Err(refusal),
-        },
-        None => Ok(Some(other)),
+    match left {
+        Some(left) => Scan::intersection(alloc, left, scan),
+        None => Ok(scan),
     }
 }
 
@@ -88,15 +79,17 @@ pub fn narrowed<'r, A: Allocator, N: Naming, B: Allocator + Copy>(
 {
     let mut left = scan;
     for condition in conditions {
-        left = narrowed_by(alloc, manifest, direction, left, *condition)?;
+        if condition.value != 0 {
+            let asked = index_scan(manifest, direction, condition.row, condition.value);
+            left = Some(narrowed_by(alloc, left, asked)?);
+        }
     }
     Ok(left)
 }
 
 /// The timestamps of the transfers that have a filter's account on a side that is asked for. Both sides take two boxes, and
 /// `NoMemory` is the only refusal.
-#[inline(always)]
-pub fn sides<'r, A: Allocator, N: Naming, B: Allocator + Copy>(
+fn sides<'r, A: Allocator, N: Naming, B: Allocator + Copy>(
     alloc: B,
     manifest: &Manifest<'r, A, N>,
     direction: Direction,
@@ -108,13 +101,60 @@ pub fn sides<'r, A: Allocator, N: Naming, B: Allocator + Copy>(
     ensures refusal { IfErr result (λ refusal. refusal ≡ Refusal.NoMemory) }
 {
     let account = filter.account_id;
-    let debits = index_scan(manifest, direction, UnitRow::TransferDebit, account);
-    let credits = index_scan(manifest, direction, UnitRow::TransferCredit, account);
     if filter.flags & AccountFilter::CREDITS == 0 {
+        let debits = index_scan(manifest, direction, UnitRow::TransferDebit, account);
         return Ok(debits);
     }
+    let credits = index_scan(manifest, direction, UnitRow::TransferCredit, account);
     if filter.flags & AccountFilter::DEBITS == 0 {
         return Ok(credits);
     }
+    let debits = index_scan(manifest, direction, UnitRow::TransferDebit, account);
     Scan::union(alloc, debits, credits)
+}
+
+/// Whether a filter of an account's transfers asks for none of their fields.
+pub fn asks_no_field(filter: &AccountFilter) -> bool
+    ensures { result ≡ list_all asks_nothing (field_conditions filter.now) }
+{
+    filter.user_data_128 == 0
+        && filter.user_data_64 == 0
+        && filter.user_data_32 == 0
+        && filter.code == 0
+}
+
+/// The timestamps of the transfers that a filter of an account's transfers asks for: those of its sides, where its fields
+/// have to be met. `NoMemory` is the only refusal.
+///
+/// A scan has two kilobytes, so where no field is asked for it isn't handed on.
+#[inline(always)]
+pub fn account_scan<'r, A: Allocator, N: Naming, B: Allocator + Copy>(
+    alloc: B,
+    manifest: &Manifest<'r, A, N>,
+    direction: Direction,
+    filter: &AccountFilter,
+) -> Result<IndexScan<'r, A, B>, Refusal>
+    requires { (asks_debits filter.now || asks_credits filter.now) ≡ true }
+    ensures direction { IfOk result (λ scan. scan.direction ≡ direction) }
+    ensures members { IfOk result (λ scan. (t : ℕ) → is_among t scan.left ≡ account_filter_at manifest.now filter.now t) }
+    ensures refusal { IfErr result (λ refusal. refusal ≡ Refusal.NoMemory) }
+{
+    if asks_no_field(filter) {
+        return sides(alloc, manifest, direction, filter);
+    }
+    let both = match sides(alloc, manifest, direction, filter) {
+        Ok(both) => both,
+        Err(refusal) => return Err(refusal),
+    };
+    match narrowed(
+        alloc,
+        manifest,
+        direction,
+        Some(both),
+        &field_conditions(filter),
+    ) {
+        Ok(Some(scan)) => Ok(scan),
+        Ok(None) => unreachable!(),
+        Err(refusal) => Err(refusal),
+    }
 }

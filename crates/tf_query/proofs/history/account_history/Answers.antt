@@ -1,8 +1,8 @@
-use Rattle.std.proofs.Common.{◌≡◌, ◌∙◌, refl, sym, ap, subst, List, IfOk}
+use Rattle.std.proofs.Common.{◌≡◌, ◌∙◌, refl, sym, ap, subst, true, List, IfOk}
 use Rattle.std.specs.List.{filter_map}
 use Rattle.std.specs.Prelude.{vec_capacity}
 use Rattle.tf_records.specs.declared.account_balance.AccountBalance.{AccountBalance}
-use Rattle.tf_query.specs.Asked.{account_filter_at}
+use Rattle.tf_query.specs.History.{history_at}
 use Rattle.tf_query.specs.Reads.{balance_in}
 use Rattle.tf_query.specs.Windows.{account_window}
 use Rattle.tf_journal.specs.Answer.{account_transfers_of, balance_after}
@@ -15,10 +15,12 @@ use Rattle.tf_query.proofs.history.account_history.Goals as goal
 pub returns-in-Ok-clause-ok : goal.returns-in-Ok-clause-ok
 returns-in-Ok-clause-ok g c journal sound shows =
     let read = balance_in c.args.manifest.now c.args.filter.now.account_id in
+    let kept : has_history journal c.args.filter.now.account_id ≡ true = sym (c.has_history.ensures journal sound shows) ∙ c.if-not-has_history.false in
     subst (λ (rows : List AccountBalance). IfOk c.balances_at.result (λ v. v.items ≡ rows))
     (ap (filter_map read) c.as_slice.ensures.value
-    ∙ answered read (account_window c.args.filter.now) (account_filter_at c.args.manifest.now c.args.filter.now) c.in-Ok.timestamps.items _ c.in-Ok.ensures.ok
-    (c.scans_answer_filters.ensures.history c.args.manifest.now journal sound shows c.args.filter.now (sym c.is_valid_account_filter.ensures ∙ c.if-not-is_valid_account_filter.false) (sym (c.has_history.ensures journal sound shows) ∙ c.if-not-has_history.false) (account_window c.args.filter.now).direction refl))
+    ∙ answered read (account_window c.args.filter.now) (history_at c.args.manifest.now c.args.filter.now) c.in-Ok.timestamps.items _ c.in-Ok.ensures.ok
+    (λ left ordered members. c.scans_answer_filters.ensures.history c.args.manifest.now journal sound shows c.args.filter.now (sym c.is_valid_account_filter.ensures ∙ c.if-not-is_valid_account_filter.false) kept
+    (account_window c.args.filter.now).direction refl left ordered (λ t. members t ∙ c.sums_date_history.ensures.asked c.args.manifest.now journal sound shows c.args.filter.now kept t)))
     c.balances_at.ensures.ok
 
 pub returns-then-not-is_valid_account_filter-clause-ok : goal.returns-then-not-is_valid_account_filter-clause-ok
@@ -35,4 +37,4 @@ returns-then-not-has_history-clause-ok g c journal sound shows =
 
 pub returns-in-Ok-clause-room : goal.returns-in-Ok-clause-room
 returns-in-Ok-clause-room g c =
-    few-rows c.balances_at.result (λ rows. vec_capacity rows) (account_window c.args.filter.now) (account_filter_at c.args.manifest.now c.args.filter.now) c.in-Ok.timestamps.items _ c.as_slice.ensures.value c.in-Ok.ensures.ok c.balances_at.ensures.room
+    few-rows c.balances_at.result (λ rows. vec_capacity rows) (account_window c.args.filter.now) (history_at c.args.manifest.now c.args.filter.now) c.in-Ok.timestamps.items _ c.as_slice.ensures.value c.in-Ok.ensures.ok c.balances_at.ensures.room

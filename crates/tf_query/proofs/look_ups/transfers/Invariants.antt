@@ -1,13 +1,16 @@
-use Rattle.std.proofs.Common.{◌≡◌, ◌≤◌, length, take}
+use Rattle.std.proofs.Common.{◌≡◌, ◌+◌, ◌≤◌, ◌++◌, length}
 use Rattle.std.specs.List.{filter_map}
 use Rattle.std.specs.Option.{option_and_then}
 use Rattle.std.specs.Prelude.{vec_capacity, vec_len}
 use Rattle.tf_query.specs.Reads.{transfer_stamp_in, transfer_in}
 use Rattle.tf_query.proofs.look_ups.transfers.Given as goal
 
-abbrev pub invariant-loop-id : goal.invariant-loop-id
-invariant-loop-id g l = record {
-  found : l.rows.items ≡ filter_map (λ id. option_and_then (transfer_in l.manifest) (transfer_stamp_in l.manifest id)) (take l.id-index l.ids);
-  few : vec_len l.rows ≤ l.id-index;
+abbrev pub invariant-loop-rest : goal.invariant-loop-rest
+invariant-loop-rest g l = record {
+  found : l.rows.items ++ filter_map (λ id. option_and_then (transfer_in l.manifest) (transfer_stamp_in l.manifest id)) l.rest ≡ filter_map (λ id. option_and_then (transfer_in l.manifest) (transfer_stamp_in l.manifest id)) l.ids;
+  few : vec_len l.rows + length l.rest ≤ length l.ids;
   room : vec_capacity l.rows ≡ length l.ids;
 }
+
+abbrev pub decreases-loop-rest : goal.decreases-loop-rest
+decreases-loop-rest g l = length l.rest

@@ -1,14 +1,20 @@
-use Rattle.std.proofs.Common.{arith, ◌∙◌, ap, get_or}
+use Rattle.std.proofs.Common.{◌∙◌, ap, arith, length, map, take}
+use Rattle.std.specs.Option.{option_copied}
+use Rattle.std.proofs.lemmas.List.{length-take}
 use Rattle.tf_manifest.specs.Row.{content_at}
 use Rattle.tf_manifest.specs.Rows.{key_of}
 use Rattle.tf_query.specs.Reads.{stored_record, transfer_in}
-use Rattle.tf_query.proofs.Found.{more-found}
+use Rattle.tf_query.proofs.Ahead.{more-ahead}
 use Rattle.tf_query.proofs.reads.transfers_at.Goals as goal
 
-pub loop-timestamp-preserved : goal.loop-timestamp-preserved
-loop-timestamp-preserved g c = record {
-  found = more-found (transfer_in c.args.manifest.now) c.args.timestamps.now c.loop-timestamp.timestamp-index _ _ _ _ (omega arith) (c.found_transfer.ensures.found ∙ ap (λ tables. stored_record (content_at (key_of 0 (get_or c.args.timestamps.now c.loop-timestamp.timestamp-index 0)) tables)) c.loop-timestamp.invariant.tables) c.push_record.ensures.items c.loop-timestamp.invariant.found;
-  few = omega (arith, c.push_record.ensures.len, c.loop-timestamp.invariant.few);
-  tables = c.found_transfer.ensures.same ∙ c.loop-timestamp.invariant.tables;
-  room = c.push_record.ensures.room ∙ c.loop-timestamp.invariant.room;
-}
+pub loop-transfers-preserved : goal.loop-transfers-preserved
+loop-transfers-preserved g c =
+    let part = c.split_at.result.0.now in
+    let read = take (length part) c.find_transfers-found.result in
+    let found = c.find_transfers-found.ensures.found ∙ ap (λ tables. map (λ t. stored_record (content_at (key_of 0 t) tables)) part) c.loop-transfers.invariant.tables in
+    record {
+      found = more-ahead option_copied (transfer_in c.args.manifest.now) (λ o. o) read part c.split_at.result.1.now c.loop-transfers.rest.now _ _ _ found c.split_at.ensures.by_index.0 c.push_records.ensures.items c.loop-transfers.invariant.found;
+      few = omega (arith, c.push_records.ensures.len, length-take (length part) c.find_transfers-found.result, c.split_at.ensures.front_len, c.split_at.ensures.back_len, c.loop-transfers.invariant.few);
+      tables = c.find_transfers-found.ensures.same ∙ c.loop-transfers.invariant.tables;
+      room = c.push_records.ensures.room ∙ c.loop-transfers.invariant.room;
+    }

@@ -1,7 +1,7 @@
 use Rattle.std.proofs.Common.{◌<◌, ◌^◌, ◌∙◌, ap, subst, arith}
 use Rattle.tf_manifest.specs.Install.{OnStale}
 use Rattle.tf_manifest.specs.Jobs.{StandsIn}
-use Rattle.tf_manifest.specs.View.{View as Tables}
+use Rattle.tf_manifest.specs.View.{View as Tables, content_in}
 use Rattle.tf_rows.specs.Counts.{Counted, all_references}
 use Rattle.tf_publish.proofs.Bounds.{counted_install}
 use Rattle.tf_publish.proofs.Measures.{installed_references}
@@ -21,3 +21,7 @@ returns-in-Ok-clause-few g c =
 pub returns-in-Err-clause-stale : goal.returns-in-Err-clause-stale
 returns-in-Err-clause-stale g c =
     subst (λ (tables : Tables). OnStale c.in-Err.refused (StandsIn tables c.args.merged → ⊥)) (ap (λ (v : Counted). v.tables) c.self.view_is) c.in-Err.ensures.stale
+
+pub returns-in-Err-clause-content : goal.returns-in-Err-clause-content
+returns-in-Err-clause-content g c =
+    λ row key. c.in-Err.ensures.content row key ∙ ap (λ (v : Counted). content_in v.tables row key) c.self.view_is

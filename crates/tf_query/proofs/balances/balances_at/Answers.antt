@@ -1,0 +1,19 @@
+use Rattle.std.proofs.Common.{◌≡◌, arith, ◌∙◌, ap, get_or}
+use Rattle.std.specs.Option.{option_copied, option_map}
+use Rattle.tf_manifest.specs.Row.{content_at}
+use Rattle.tf_manifest.specs.Rows.{key_of}
+use Rattle.tf_query.specs.Reads.{balance_by, balance_in, stored_record, sums_in}
+use Rattle.tf_query.proofs.Found.{more-found}
+use Rattle.tf_query.proofs.balances.balances_at.Goals as goal
+
+pub loop-timestamp-preserved : goal.loop-timestamp-preserved
+loop-timestamp-preserved g c =
+    let timestamp = get_or c.args.timestamps.now c.loop-timestamp.timestamp-index 0 in
+    let read : option_copied c.found_sums-found.result ≡ sums_in c.args.manifest.now c.args.account_id timestamp =
+    c.found_sums-found.ensures.found ∙ ap (λ tables. stored_record (content_at (key_of c.args.account_id timestamp) tables)) c.loop-timestamp.invariant.tables in
+    record {
+      found = more-found (balance_in c.args.manifest.now c.args.account_id) c.args.timestamps.now c.loop-timestamp.timestamp-index _ _ _ _ (omega arith) (ap (option_map (balance_by timestamp)) read) c.push_balance.ensures.items c.loop-timestamp.invariant.found;
+      few = omega (arith, c.push_balance.ensures.len, c.loop-timestamp.invariant.few);
+      tables = c.found_sums-found.ensures.same ∙ c.loop-timestamp.invariant.tables;
+      room = c.push_balance.ensures.room ∙ c.loop-timestamp.invariant.room;
+    }

@@ -1,0 +1,15 @@
+-- Rows of tables that are still to come, and what they say of their keys.
+use Rattle.std.specs.Prelude.{◌≡◌, List, Option, Some}
+use Rattle.std.specs.List.{AllByRecursion}
+use Rattle.tf_table.specs.declared.key.Key.{Key}
+use Rattle.tf_table.specs.Content.{entry_at, entry_of}
+use Rattle.tf_query.specs.declared.finder.Part.{Part}
+use Rattle.tf_query.specs.Finder.{IsInPart}
+
+-- each row has the entry of its key in a table
+abbrev pub AreEntries : {V : Type 0} → List (Key × Option V) → List (Key × Option V) → Type 0
+AreEntries table rows = AllByRecursion (λ row. entry_at row.0 table ≡ Some row.1) rows
+
+-- in a part of time each row has the entry of its key in lists, newest first
+abbrev pub AreKnown : {V : Type 0} → List (List (Key × Option V)) → Part → List (Key × Option V) → Type 0
+AreKnown lists part rows = AllByRecursion (λ row. IsInPart part row.0.timestamp → entry_of row.0 lists ≡ Some row.1) rows
