@@ -54,8 +54,10 @@ SETTLED = (
     "merges it in the writer's thread: such rows could be merged before, by others."
 )
 SEARCHES = (
-    "by answers of both lengths some 2.8 microseconds of a query come before its first row, for places of 64 tables in each "
-    "prefix, boxes and two searches by halving; and a row costs a read of its record from far memory."
+    "by answers of both lengths some 1.8 microseconds of a query come before its first row, for places of 64 tables in each "
+    "prefix, boxes, and a search by halving in each table that has rows; a rank of each eighth key in a run of its own would "
+    "shorten that, and it was proved of tables alone: with one more run in each, the checker stops at its limits where the "
+    "type of all rows is compared."
 )
 NEXT = {name: CHANGES for name, _ in INGEST}
 NEXT |= {name: SETTLED for name in ("pending_post", "pending_void")}
@@ -65,11 +67,12 @@ NEXT |= {
 }
 NEXT |= {name: SEARCHES for name, _ in QUERIES}
 NEXT |= {
-    "query_user_data_64_with_ledger": "each transfer with the value is read from far memory, to test its ledger.",
-    "query_ledger_with_code": "each transfer with the code is read from far memory, to test its ledger.",
-    "query_balances_200": "the balances of each transfer are found from where the last ones stand, after a look at the keys and the "
-    "spans of some 16 tables: one walk over the account's rows in each table would look at no span.",
-    "look_up_random": "an id is searched by halving in the one table whose filter tells of it, and its record is read from far memory.",
+    "query_user_data_64_with_ledger": "each transfer with the value is read from far memory, sixteen at a time, to test its ledger.",
+    "query_ledger_with_code": "each transfer with the code is read from far memory, sixteen at a time, to test its ledger.",
+    "query_balances_200": "the account's rows are searched three times in each of some 16 tables, for their timestamps, for the first "
+    "row and for the rows behind it; a scan that gives rows and not timestamps alone would search once.",
+    "look_up_random": "an id is searched by halving in the one table whose filter tells of it, which ranks of each eighth key would "
+    "shorten, and its record is read from far memory.",
 }
 HEAD = [
     "| workload | transfers | merges | ours, ms | plain Rust, ms | rate | worst batch, ms | plain Rust's, ms | peak MiB | plain Rust's, MiB | events | publishes | merges |",
