@@ -16,7 +16,6 @@ mod laws;
 mod manifest;
 mod merging;
 mod naming;
-mod near;
 mod picking;
 mod place;
 mod pushes;
@@ -41,7 +40,6 @@ pub use laws::{
 };
 pub use manifest::Manifest;
 pub use naming::{Naming, RowValue};
-pub use near::Near;
 pub use pushes::Pushes;
 pub use registries::Registries;
 pub use registry::Registry;

@@ -7,7 +7,7 @@ ghost use Rattle.tf_manifest.specs.Table.{Shown};
 ghost use Rattle.tf_manifest.specs.Reference.{shown_of};
 ghost use Rattle.tf_manifest.specs.Row.{lists_of, content_at, is_nil, weight, IsRow};
 
-use crate::{Naming, Near, Registry, RowValue, TableRef};
+use crate::{Naming, Registry, RowValue, TableRef};
 use arrayvec::ArrayVec;
 use std::alloc::Allocator;
 use std::marker::Model;
@@ -118,16 +118,6 @@ impl<'r, V: RowValue, A: Allocator, N: Naming> Tables<'r, V, A, N> {
         }
     }
 
-    /// The same as `find`, where the look-up in each table begins where the last one ended.
-    ///
-    /// Of keys that are looked up in their order, or in the opposite one, each takes in the tables whose timestamps it lies
-    /// among a number of comparisons that grows with the logarithm of the rows passed over.
-    pub fn find_near(&self, key: &Key, near: &mut Near) -> Option<&'r V>
-        ensures { option_copied result ≡ content_at key.now self.now }
-    {
-        newest_entry_near(self.references.as_slice(), key, near)?
-    }
-
     /// The first key above `key` that has an entry, a value or a tombstone, in one of the tables, if there is one.
     ///
     /// It goes over all tables, by one search in each.
@@ -161,28 +151,6 @@ fn newest_entry<'r, V: RowValue, A: Allocator, N: Naming>(
         if found.is_some() {
             return found;
         }
-    }
-    None
-}
-
-/// The same, where the look-up in each table begins where the last one ended.
-fn newest_entry_near<'r, V: RowValue, A: Allocator, N: Naming>(
-    references: &[TableRef<'r, V, A, N>],
-    key: &Key,
-    near: &mut Near,
-) -> Option<Option<&'r V>>
-    ensures { option_map option_copied result ≡ entry_of key.now (lists_of (map shown_of references.now)) }
-{
-    let mut index = 0usize;
-    for reference in references {
-        let found = reference
-            .table()
-            .table()
-            .find_near(key, near.in_table(index));
-        if found.is_some() {
-            return found;
-        }
-        index = index.wrapping_add(1);
     }
     None
 }

@@ -46,14 +46,9 @@ module _ (words : List ℕ) (place word more : ℕ) (within : place < length wor
     either (inr (inl b)) = apart (λ e. omega arith)
     either (inr (inr a)) = apart (λ e. omega arith)
 
-  same_length : length with_bits ≡ length words
-  same_length = length-set words place (bit_or word more)
-
   -- the same of values
-  pub value_set : (value : ℕ) → place ≡ place_of (length words) (hash_of value) → more ≡ bits_of (hash_of value) → Holds with_bits value
-  value_set value p b = subst (λ n. HasBits with_bits (place_of n (hash_of value)) (bits_of (hash_of value))) (sym same_length)
-      (subst (λ q. HasBits with_bits q (bits_of (hash_of value))) p (subst (HasBits with_bits place) b bits_set))
+  pub value_set : (count value : ℕ) → place ≡ place_of count (hash_of value) → more ≡ bits_of (hash_of value) → Holds with_bits count value
+  value_set count value p b = λ below. subst (λ q. HasBits with_bits q (bits_of (hash_of value))) p (subst (HasBits with_bits place) b bits_set)
 
-  pub value_kept : (other : ℕ) → Holds words other → Holds with_bits other
-  value_kept other h = subst (λ n. HasBits with_bits (place_of n (hash_of other)) (bits_of (hash_of other))) (sym same_length)
-      (bits_kept (place_of (length words) (hash_of other)) (bits_of (hash_of other)) h)
+  pub value_kept : (count other : ℕ) → Holds words count other → Holds with_bits count other
+  value_kept count other h = λ below. bits_kept (place_of count (hash_of other)) (bits_of (hash_of other)) (h below)

@@ -32,8 +32,8 @@ entry_at-zip P key (k ∷ ks) (e ∷ es) h n =
     ∙ entry_at-zip P key ks es (All-tail P k ks h) n
 
 -- nor a value that the filter doesn't hold
-pub entry_at-unheld : {V A : Type 0} (words : List ℕ) (key : Key) (ks : List Key) (es : Entries V A) → HoldsEach words ks → (Holds words key.value → ⊥) → entry_at key (rows_of ks es) ≡ None
-entry_at-unheld words key ks es h n = entry_at-zip (λ (x : Key). Holds words x.value) key ks (entries_of (length ks) es) h n
+pub entry_at-unheld : {V A : Type 0} (words : List ℕ) (count : ℕ) (key : Key) (ks : List Key) (es : Entries V A) → HoldsEach words count ks → (Holds words count key.value → ⊥) → entry_at key (rows_of ks es) ≡ None
+entry_at-unheld words count key ks es h n = entry_at-zip (λ (x : Key). Holds words count x.value) key ks (entries_of (length ks) es) h n
 
 -- the timestamps of keys lie within the span
 abbrev IsWithin : Span → ℕ → Type 0

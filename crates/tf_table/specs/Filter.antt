@@ -23,10 +23,10 @@ bits_of hash = bit_or (bit_or (bit_of (hash / 2 ^ 22)) (bit_of (hash / 2 ^ 28)))
 abbrev pub HasBits : List ℕ → ℕ → ℕ → Type 0
 HasBits words place bits = (d : ℕ) → place < length words → bit_or (slice_index_or words place d) bits ≡ slice_index_or words place d
 
--- the value's bits are set
-abbrev pub Holds : List ℕ → ℕ → Type 0
-Holds words value = HasBits words (place_of (length words) (hash_of value)) (bits_of (hash_of value))
+-- the value's bits are set among so many words
+abbrev pub Holds : List ℕ → ℕ → ℕ → Type 0
+Holds words count value = place_of count (hash_of value) < count → HasBits words (place_of count (hash_of value)) (bits_of (hash_of value))
 
 -- the bits of each key's value are set
-abbrev pub HoldsEach : List ℕ → List Key → Type 0
-HoldsEach words keys = All (λ key. Holds words key.value) keys
+abbrev pub HoldsEach : List ℕ → ℕ → List Key → Type 0
+HoldsEach words count keys = All (λ key. Holds words count key.value) keys

@@ -31,7 +31,7 @@ pub record IsLaidOut {V A : Type 0} (least greatest : Key) (span : Option Span) 
   pub times : HasSpan span (map (λ key. key.timestamp) keys)
 
 -- what always holds of a table: its rows are laid out, with no more room than they need, and its filter holds each key
-pub record IsSealed {V A : Type 0} (least greatest : Key) (span : Option Span) (words : List ℕ) (keys_room : ℕ) (keys : List Key) (entries : Entries V A) : Type 0 where
+pub record IsSealed {V A : Type 0} (least greatest : Key) (span : Option Span) (words : List ℕ) (filter_words keys_room : ℕ) (keys : List Key) (entries : Entries V A) : Type 0 where
   pub laid : IsLaidOut least greatest span keys entries
   pub fitted : IsFitted (length keys) keys_room entries
-  pub held : HoldsEach words keys
+  pub held : HoldsEach words filter_words keys

@@ -40,7 +40,7 @@ impl<V, A: Allocator> Sealed<V, A> {
         let to = self.len();
         Cursor {
             table: self,
-            from: self.first_from(0, to, key, Start::Middle),
+            from: self.first_from(0, to, key, self.near(key)),
             to,
         }
     }
@@ -53,7 +53,7 @@ impl<V, A: Allocator> Sealed<V, A> {
         Cursor {
             table: self,
             from: 0,
-            to: self.last_upto(0, len, key, Start::Middle),
+            to: self.last_upto(0, len, key, self.near(key)),
         }
     }
 
@@ -65,7 +65,7 @@ impl<V, A: Allocator> Sealed<V, A> {
         ensures { result ≡ rows_upto key_cmp to.now (rows_from key_cmp from.now self.now) }
     {
         let len = self.len();
-        let first = self.first_from(0, len, from, Start::Middle);
+        let first = self.first_from(0, len, from, self.near(from));
         Cursor {
             table: self,
             from: first,

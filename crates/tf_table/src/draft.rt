@@ -6,9 +6,10 @@ ghost use Rattle.tf_table.specs.Content.{kept_row};
 ghost use Rattle.tf_table.specs.Rows.{rows_of, IsPaired, IsFitted};
 
 use crate::entries::Entries;
-use crate::filter::Filter;
+use crate::fences::Scale;
 use crate::fitted::fitted;
 use crate::front::Front;
+use crate::hints::Hints;
 use crate::span::span_of;
 use crate::{Key, Repeats, Sealed};
 use std::alloc::{AllocError, Allocator};
@@ -74,7 +75,8 @@ impl<V: Repeats, A: Allocator + Clone> Draft<V, A> {
         self.add(row.key(), entry)
     }
 
-    /// The table of the rows. Room that they don't take is given back. The memory of its filter comes from `alloc`.
+    /// The table of the rows. Room that they don't take is given back. The memory of its filter and of its fences comes from
+    /// `alloc`.
     pub(crate) fn seal(self, alloc: A) -> Result<Sealed<V, A>, AllocError>
         requires paired { IsPaired self.keys.items self.entries }
         requires rising { IsRising key_cmp (rows_of self.keys.items self.entries) }
@@ -93,12 +95,14 @@ impl<V: Repeats, A: Allocator + Clone> Draft<V, A> {
         };
         let span = span_of(&keys);
         // Keys of one value would share their bits.
-        let filter = Filter::of(alloc, &keys, V::FILTERED && least.value < greatest.value)?;
+        let is_filtered = V::FILTERED && least.value < greatest.value;
+        let scale = Scale::of(&least, &greatest, span);
+        let hints = Hints::of(alloc, &keys, is_filtered, &scale)?;
         Ok(Sealed {
             least,
             greatest,
             span,
-            filter,
+            hints,
             keys,
             entries,
         })

@@ -1,62 +1,41 @@
 //! The filter of a table: which values its keys may have.
-ghost use Rattle.std.specs.Prelude.{◌≡◌, ◌+◌, ◌/◌, ◌^◌, ◌%◌, ℕ, length, IfOk, true, if◌then◌else◌};
-ghost use Rattle.tf_table.specs.Filter.{hash_of, place_of, bit_of, bits_of, Holds, HoldsEach};
+ghost use Rattle.std.specs.Prelude.{◌≡◌, ◌+◌, ◌/◌, ℕ, length, true};
+ghost use Rattle.tf_table.specs.Filter.{hash_of, place_of, bit_of, bits_of, Holds};
 
-use crate::Key;
-use std::alloc::{AllocError, Allocator};
+use std::alloc::Allocator;
 
 /// How many keys share a word, which leaves some ten bits for each.
 const KEYS_A_WORD: usize = 6;
 
-/// Bits of the values that keys have. Without words it says nothing.
-#[derive(Drop)]
-pub(crate) struct Filter<A: Allocator> {
-    words: Vec<u64, A>,
-}
-
-impl<A: Allocator> Filter<A> {
-    /// The filter of the keys if it is wanted, else one that says nothing and takes no memory. It goes over the keys once.
-    pub(crate) fn of(alloc: A, keys: &[Key], wanted: bool) -> Result<Self, AllocError>
-        ensures held { IfOk result (λ filter. HoldsEach filter.words.items keys.now) }
-        ensures words { IfOk result (λ filter. length filter.words.items ≡ (if wanted then length keys.now / KEYS_A_WORD + 1 else 0)) }
-    {
-        if !wanted {
-            return Ok(Filter {
-                words: Vec::new(alloc),
-            });
-        }
-        let mut words = Vec::from_elem(alloc, 0, keys.len() / KEYS_A_WORD + 1)?;
-        for key in keys {
-            put(&mut words, key.value);
-        }
-        Ok(Filter { words })
-    }
-
-    /// Whether a key may have the value: whether its bits are set. It reads one word.
-    #[inline]
-    pub(crate) fn may_hold(&self, value: u128) -> bool
-        ensures held { Holds self.now.words.items value → result ≡ true }
-        ensures unheld { result ≡ true → Holds self.now.words.items value }
-    {
-        if self.words.is_empty() {
-            return true;
-        }
-        let hash = hash(value);
-        let place = place(self.words.len(), hash);
-        place >= self.words.len() || self.words[place] | bits(hash) == self.words[place]
-    }
-}
-
-/// Sets the value's bits.
+/// How many words the filter of so many keys has.
 #[inline]
-fn put<A: Allocator>(words: &mut Vec<u64, A>, value: u128)
-    ensures value { Holds words.new.items value }
-    ensures others { (other : ℕ) → Holds words.old.items other → Holds words.new.items other }
+pub(crate) fn filter_words_of(keys: usize) -> usize
+    ensures { result ≡ keys / KEYS_A_WORD + 1 }
+{
+    keys / KEYS_A_WORD + 1
+}
+
+/// Whether a key may have the value: whether its bits are set among the first `count` words. It reads one word.
+#[inline]
+pub(crate) fn may_hold(words: &[u64], count: usize, value: u128) -> bool
+    ensures held { Holds words.now count value → result ≡ true }
+    ensures unheld { result ≡ true → Holds words.now count value }
+{
+    let hash = hash(value);
+    let place = place(count, hash);
+    place >= count || place >= words.len() || words[place] | bits(hash) == words[place]
+}
+
+/// Sets the value's bits among the first `count` words.
+#[inline]
+pub(crate) fn put<A: Allocator>(words: &mut Vec<u64, A>, count: usize, value: u128)
+    ensures value { Holds words.new.items count value }
+    ensures others { (other : ℕ) → Holds words.old.items count other → Holds words.new.items count other }
     ensures length { length words.new.items ≡ length words.old.items }
 {
     let hash = hash(value);
-    let place = place(words.len(), hash);
-    if place < words.len() {
+    let place = place(count, hash);
+    if place < count && place < words.len() {
         words[place] |= bits(hash);
     }
 }

@@ -9,7 +9,8 @@ ghost use Rattle.tf_table.specs.Merge.{seen};
 ghost use Rattle.tf_table.specs.Span.{HasSpan, timestamps};
 
 use crate::entries::Entries;
-use crate::filter::Filter;
+use crate::fences::{Scale, near};
+use crate::hints::Hints;
 use crate::search::{Start, are_dense, count_below, count_upto};
 use crate::{Key, Span};
 use std::alloc::Allocator;
@@ -22,12 +23,13 @@ pub type Row<'a, V> = (&'a Key, Option<&'a V>);
 ///
 /// The keys lie in one run and the entries in another, and entries that all repeat the first are stored once. Where the
 /// values ask for it there is a filter too, of some ten bits a key, which tells of most absent keys that they are absent.
+/// A table of 1,024 rows or more has fences too, of eight bits a key, which tell where a search for a key begins.
 #[derive(Drop)]
 pub struct Sealed<V, A: Allocator> {
     pub(crate) least: Key,
     pub(crate) greatest: Key,
     pub(crate) span: Option<Span>,
-    pub(crate) filter: Filter<A>,
+    pub(crate) hints: Hints<A>,
     pub(crate) keys: Vec<Key, A>,
     pub(crate) entries: Entries<V, A>,
 }
@@ -42,7 +44,7 @@ impl<V, A: Allocator> Model for Sealed<V, A> {
 
     ghost view = { λ t. rows_of t.keys.items t.entries };
 
-    ghost invariant = { λ t. IsSealed t.least t.greatest t.span t.filter.words.items (vec_capacity t.keys) t.keys.items t.entries };
+    ghost invariant = { λ t. IsSealed t.least t.greatest t.span t.hints.words.items t.hints.filter_words (vec_capacity t.keys) t.keys.items t.entries };
 }
 
 impl<V, A: Allocator> Sealed<V, A> {
@@ -96,8 +98,9 @@ impl<V, A: Allocator> Sealed<V, A> {
     /// It takes four comparisons for a key that no row can have, by the least and the greatest key of the table and by the
     /// span of its timestamps, and else a number that grows with the logarithm of the rows. Of rows without a value, one
     /// before which no timestamp is missing takes five, and where none is missing at all no key is read. Where there is a
-    /// filter, it tells most keys between the two that the table doesn't have by one word. No entry is read until the key is
-    /// found.
+    /// filter, it tells most keys between the two that the table doesn't have by one word. Where there are fences, mostly ten of
+    /// the comparisons read keys, which lie side by side, and the others read fences; they read more keys where more than eight
+    /// rows have one value and the values of the table differ by 2^64 or more. No entry is read until the key is found.
     pub fn find(&self, key: &Key) -> Option<Option<&V>>
         ensures { option_map option_copied result ≡ entry_at key.now self.now }
     {
@@ -111,45 +114,41 @@ impl<V, A: Allocator> Sealed<V, A> {
         if !self.may_have(key) {
             return None;
         }
-        let (_, entry) = self.entry_by(key, self.first_look(key));
-        entry
-    }
-
-    /// The same as `find`, where the search begins at a place, which is then that of the key, or where it would be.
-    ///
-    /// Of keys that are looked up in their order, or in the opposite one, each takes a number of comparisons that grows with
-    /// the logarithm of the rows passed over.
-    pub fn find_near(&self, key: &Key, place: &mut usize) -> Option<Option<&V>>
-        ensures { option_map option_copied result ≡ entry_at key.now self.now }
-    {
-        if !self.may_have(key) {
-            return None;
-        }
-        let (at, entry) = self.entry_by(key, Start::Near(*place));
-        *place = at;
-        entry
+        self.entry_by(key, self.first_look(key))
     }
 
     /// Where a search for a key begins. Of rows without a value that is where the key stands if no timestamp is missing before
-    /// it.
+    /// it, unless so many rows aren't there. Else the fences tell.
     #[inline]
     fn first_look(&self, key: &Key) -> Start {
-        if self.greatest.value == 0 {
-            Start::Near(key.timestamp.saturating_sub(self.least.timestamp) as usize)
+        let place = key.timestamp.saturating_sub(self.least.timestamp) as usize;
+        if self.greatest.value == 0 && place < self.keys.len() {
+            Start::Near(place)
         } else {
-            Start::Middle
+            self.near(key)
         }
     }
 
-    /// The place of a key, or where it would be, and its entry.
-    fn entry_by(&self, key: &Key, start: Start) -> (usize, Option<Option<&V>>)
-        ensures { option_map option_copied result.1 ≡ entry_at key.now self.now }
+    /// Where a search for a key begins, by the fences.
+    #[inline]
+    pub(crate) fn near(&self, key: &Key) -> Start {
+        let fences = self.hints.fences();
+        if fences.is_empty() {
+            return Start::Middle;
+        }
+        let scale = Scale::of(&self.least, &self.greatest, self.span);
+        near(fences, &scale, &self.keys, key)
+    }
+
+    /// The entry of a key, by a search that begins somewhere.
+    fn entry_by(&self, key: &Key, start: Start) -> Option<Option<&V>>
+        ensures { option_map option_copied result ≡ entry_at key.now self.now }
     {
         let place = count_below(&self.keys, key, start);
         if place < self.keys.len() && self.keys[place].cmp(key).is_eq() {
-            return (place, Some(self.entries.at(place)));
+            return Some(self.entries.at(place));
         }
-        (place, None)
+        None
     }
 
     /// Whether the table may have the key, by the span of its timestamps, and by one word of its filter where there is one:
@@ -158,7 +157,7 @@ impl<V, A: Allocator> Sealed<V, A> {
     pub fn may_have(&self, key: &Key) -> bool
         ensures { result ≡ false → entry_at key.now self.now ≡ None }
     {
-        self.may_span(key) && self.filter.may_hold(key.value)
+        self.may_span(key) && self.hints.may_hold(key.value)
     }
 
     /// Whether the key's timestamp lies within the span.
@@ -182,7 +181,7 @@ impl<V, A: Allocator> Sealed<V, A> {
     pub fn first_above(&self, key: &Key) -> Option<Key>
         ensures { IsFirstAbove key.now (λ found. entry_at found self.now) result }
     {
-        let place = count_upto(&self.keys, key, Start::Middle);
+        let place = count_upto(&self.keys, key, self.near(key));
         self.keys.get(place).copied()
     }
 

@@ -1,6 +1,7 @@
 //! The worked example of two small tables, and each public call once.
 
 mod edges;
+mod fences;
 mod filter;
 mod firsts;
 mod many;

@@ -11,8 +11,12 @@ use tf_table::{Key, Sealed, merge, seal};
 
 /// Bytes by which a heap grows from one try to the next.
 ///
-/// No request of a seal or a merge is for fewer, so at some size of the heap each of them is the first to be refused.
+/// No request of a seal or a merge of a few rows is for fewer, so at some size of the heap each of them is the first to be
+/// refused.
 const STEP: usize = 16;
+
+/// The same for tables of so many rows that they have fences, which take no less.
+const LARGE_STEP: usize = 1024;
 
 /// The table has these rows and no other.
 fn assert_table<A: Allocator>(
@@ -107,16 +111,18 @@ fn is_merged<'a>(
     }
 }
 
-/// The size of the smallest heap that suffices to seal a tree of these rows, after a refusal at each smaller one.
+/// The size of the smallest heap that suffices to seal a tree of these rows, after a refusal at each smaller one. Heaps grow
+/// by `step` bytes.
 fn room_of_seal(
     rt: &(impl Abort + AllocGlobal),
     rows: &[(u128, Option<u64>)],
+    step: usize,
 ) -> Result<usize, Fail> {
-    let store = LocalHeap::new(rt.alloc(), 1 << 14)?;
+    let store = LocalHeap::new(rt.alloc(), 1 << 18)?;
     for tries in 0..200usize {
-        let heap = LocalHeap::new(rt.alloc(), tries * STEP)?;
+        let heap = LocalHeap::new(rt.alloc(), tries.saturating_mul(step))?;
         if is_sealed(rt, &store, &heap, rows)? {
-            return Ok(tries * STEP);
+            return Ok(tries.saturating_mul(step));
         }
     }
     Err(Fail::new("the seal never succeeds"))
@@ -143,9 +149,25 @@ fn each_refused_request_of_a_seal_leaves_the_tree_as_it_was(rt: HostRuntime) -> 
     // A key takes 32 bytes, an entry 16, and the filter of so few keys a block of 16.
     let alike = [(5, Some(1)), (7, Some(1)), (9, Some(1))];
     let unlike = [(5, None), (7, Some(10)), (9, Some(11))];
-    assert_eq!(rt; room_of_seal(&rt, &[])?, 0);
-    assert_eq!(rt; room_of_seal(&rt, &alike)?, 3 * 32 + 16);
-    assert_eq!(rt; room_of_seal(&rt, &unlike)?, 3 * (32 + 16) + 16);
+    assert_eq!(rt; room_of_seal(&rt, &[], STEP)?, 0);
+    assert_eq!(rt; room_of_seal(&rt, &alike, STEP)?, 3 * 32 + 16);
+    assert_eq!(rt; room_of_seal(&rt, &unlike, STEP)?, 3 * (32 + 16) + 16);
+    Ok(())
+}
+
+#[test]
+fn each_refused_request_of_a_seal_with_fences_leaves_the_tree_as_it_was(
+    rt: HostRuntime,
+) -> Result<(), Fail> {
+    let mut rows = Vec::new(rt.alloc());
+    for value in 0..1024u64 {
+        rows.push((value.into(), Some(value)))?;
+    }
+    // The keys take 32 KiB, the entries 16, the filter between one and two, and the fences one.
+    assert_eq!(rt;
+        room_of_seal(&rt, &rows, LARGE_STEP)?,
+        (32 + 16 + 2 + 1) * LARGE_STEP
+    );
     Ok(())
 }
 

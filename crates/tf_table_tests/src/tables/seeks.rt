@@ -74,24 +74,6 @@ fn a_range_has_both_its_ends(rt: HostRuntime) -> Result<(), Fail> {
 }
 
 #[test]
-fn a_key_is_found_from_any_place(rt: HostRuntime) -> Result<(), Fail> {
-    let table = thirds(&rt)?;
-    for i in 0..ROWS {
-        let found = if i % 3 == 0 { Some(Some(i)) } else { None };
-        for start in [0usize, 1, 30, 99, 100, 101, usize::MAX] {
-            let mut place = start;
-            let near = table.find_near(&key(i), &mut place);
-            assert_eq!(rt; near.map(|entry| entry.copied()), found);
-            assert_eq!(rt; table.find(&key(i)).map(|entry| entry.copied()), found);
-            if found.is_some() {
-                assert_eq!(rt; place as u64, i / 3);
-            }
-        }
-    }
-    Ok(())
-}
-
-#[test]
 fn a_span_is_that_of_the_timestamps(rt: HostRuntime) -> Result<(), Fail> {
     let table = thirds(&rt)?;
     // Row 294 is the first of value 42, row 6 the last of value 0.

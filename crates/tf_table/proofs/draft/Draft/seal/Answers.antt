@@ -12,5 +12,5 @@ invariant_of-result g c =
         c.in_ok-keys.ensures.room ∙ sym n,
         subst (λ m. IsStored m c.in_ok-entries.entries) (sym n) (c.in_ok-entries.ensures.stored c.args.self.room (length c.args.self.keys.items) c.requires.fitted.1 c.requires.paired),
       );
-      held = subst (HoldsEach c.in_ok-filter.filter.words.items) c.deref-4.ensures.value c.in_ok-filter.ensures.held;
+      held = subst (HoldsEach c.in_ok-hints.hints.words.items c.in_ok-hints.hints.filter_words) c.deref-4.ensures.value c.in_ok-hints.ensures.held;
     }
