@@ -68,11 +68,14 @@ impl Residual {
         }
     }
 
-    /// Whether a transfer has the fields that are tested.
+    /// Whether a transfer has the fields that are tested. Both are compared, without a branch, since which transfers pass can't
+    /// be foretold: a processor that waits for none of them reads many from far memory at once.
+    #[inline]
     pub fn passes(&self, transfer: &Transfer) -> bool
         ensures { result ≡ passes self.now transfer.now }
     {
-        (self.ledger == 0 || transfer.ledger == self.ledger)
-            && (self.code == 0 || transfer.code == self.code)
+        let has_ledger = (self.ledger == 0) | (transfer.ledger == self.ledger);
+        let has_code = (self.code == 0) | (transfer.code == self.code);
+        has_ledger & has_code
     }
 }
