@@ -80,30 +80,31 @@ impl Batches {
         self.worst = 0;
     }
 
-    /// How long the batches took.
+    /// A sum of what failed and of all accounts, and how long the batches took.
     pub fn measured(self) -> Measured {
         Measured {
-            checksum: self.checksum(),
+            checksum: accounts_sum(&self.ledger, self.failures),
             nanoseconds: self.nanoseconds,
             worst: self.worst,
+            ..Measured::default()
         }
     }
+}
 
-    /// A sum of what failed and of all accounts.
-    fn checksum(&self) -> u64 {
-        let ids: Vec<u128> = (0..ACCOUNTS).map(account_id).collect();
-        let lookups = ids.chunks(BATCH_MAX);
-        let accounts = lookups.flat_map(|ids| {
-            let accounts = self.ledger.lookup_accounts(ids);
-            accounts.expect("the look-up isn't refused")
-        });
-        accounts.fold(self.failures, |sum, account| {
-            let sum = mixed(sum, account.debits_pending as u64);
-            let sum = mixed(sum, account.debits_posted as u64);
-            let sum = mixed(sum, account.credits_pending as u64);
-            mixed(sum, account.credits_posted as u64)
-        })
-    }
+/// A sum of a number and the balances of all accounts.
+pub fn accounts_sum(ledger: &Ledger, number: u64) -> u64 {
+    let ids: Vec<u128> = (0..ACCOUNTS).map(account_id).collect();
+    let lookups = ids.chunks(BATCH_MAX);
+    let accounts = lookups.flat_map(|ids| {
+        let accounts = ledger.lookup_accounts(ids);
+        accounts.expect("the look-up isn't refused")
+    });
+    accounts.fold(number, |sum, account| {
+        let sum = mixed(sum, account.debits_pending as u64);
+        let sum = mixed(sum, account.debits_posted as u64);
+        let sum = mixed(sum, account.credits_pending as u64);
+        mixed(sum, account.credits_posted as u64)
+    })
 }
 
 /// The lengths of the batches of so many events, all but the last of which have the greatest length.

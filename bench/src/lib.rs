@@ -12,6 +12,7 @@ pub mod ledger;
 pub mod pending;
 pub mod queries;
 pub mod script;
+pub mod sharing;
 
 use std::time::Instant;
 
@@ -29,6 +30,10 @@ pub struct Measured {
     pub nanoseconds: u128,
     /// How long that round or batch took that took longest, or all of it, where there are none.
     pub worst: u128,
+    /// Beside readers, from the writer's start to its end, for how long it held the lock at most, and how many queries they made.
+    pub wall: u128,
+    pub held: u128,
+    pub queries: u64,
 }
 
 /// Times the work, which gives a checksum.
@@ -40,5 +45,6 @@ pub fn measure(work: impl FnOnce() -> u64) -> Measured {
         checksum,
         nanoseconds,
         worst: nanoseconds,
+        ..Measured::default()
     }
 }

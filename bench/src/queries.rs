@@ -234,6 +234,6 @@ fn balances_sum(rows: &[AccountBalance]) -> u64 {
 }
 
 /// A sum of the timestamps of all rows.
-fn timestamps(rows: &[Transfer]) -> u64 {
+pub fn timestamps(rows: &[Transfer]) -> u64 {
     rows.iter().fold(0, |sum, row| mixed(sum, row.timestamp))
 }

@@ -3,7 +3,7 @@
 use plain::batches::{batch_lengths, Batches};
 use plain::events::{account_id, Ids, Transfers, ACCOUNTS, WITH_HISTORY};
 use plain::ledger::{Account, QueryFilter, BATCH_MAX};
-use plain::{ingest, pending, queries, script, Measured, Run};
+use plain::{ingest, pending, queries, script, sharing, Measured, Run};
 
 const RUN: Run = Run {
     count: 5_000,
@@ -85,6 +85,13 @@ fn queries_find_rows() {
         queries::look_up(RUN, Ids::Random),
     ];
     assert!(queries.iter().all(|measured| measured.checksum != 0));
+}
+
+#[test]
+fn what_is_stored_beside_readers_is_an_ingest() {
+    assert_same(sharing::share(RUN, 0), ingest::ingest(RUN, Ids::Rising));
+    let shared = sharing::share(RUN, 2);
+    assert_same(sharing::share(RUN, 2), shared);
 }
 
 #[test]

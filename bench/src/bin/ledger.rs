@@ -1,5 +1,6 @@
 //! The workloads of `tf_ledger_bench` over the ledger that is written by hand in plain Rust, by the same words:
-//! `ledger WORKLOAD COUNT SEED` prints the checksum, and nanoseconds: in all, and of the batch that took longest.
+//! `ledger WORKLOAD COUNT SEED` prints the checksum, and nanoseconds: in all, and of the batch that took longest; beside
+//! readers also from the writer's start to its end, and for which it held the lock at most, and how many queries they made.
 //! Without arguments the program lists its workloads.
 //!
 //! There are 10,000 accounts, and COUNT transfers between them, which have all searched fields. Batches have 8,190
@@ -7,13 +8,13 @@
 //! `ingest_small` stands for both of the workloads with small batches.
 
 use plain::events::Ids;
-use plain::{ingest, pending, queries, Measured, Run};
+use plain::{ingest, pending, queries, sharing, Measured, Run};
 use std::env;
 use std::process::ExitCode;
 
 type Workload = fn(Run) -> Measured;
 
-const WORKLOADS: [(&str, Workload); 17] = [
+const WORKLOADS: [(&str, Workload); 20] = [
     ("ingest_rising", |run| ingest::ingest(run, Ids::Rising)),
     ("ingest_random", |run| ingest::ingest(run, Ids::Random)),
     ("ingest_small", ingest::ingest_small),
@@ -40,6 +41,9 @@ const WORKLOADS: [(&str, Workload); 17] = [
     ("query_all", queries::all),
     ("look_up_rising", |run| queries::look_up(run, Ids::Rising)),
     ("look_up_random", |run| queries::look_up(run, Ids::Random)),
+    ("shared_1", |run| sharing::share(run, 1)),
+    ("shared_3", |run| sharing::share(run, 3)),
+    ("shared_16", |run| sharing::share(run, 16)),
 ];
 
 /// Runs one workload.
@@ -69,8 +73,11 @@ fn main() -> ExitCode {
                 checksum,
                 nanoseconds,
                 worst,
+                wall,
+                held,
+                queries,
             } = measured;
-            println!("{checksum} {nanoseconds} {worst}");
+            println!("{checksum} {nanoseconds} {worst} {wall} {held} {queries}");
             ExitCode::SUCCESS
         }
         None => {

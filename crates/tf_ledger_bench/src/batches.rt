@@ -146,20 +146,25 @@ impl<A: Allocator + Copy> Batches<A> {
         &self,
         store: &Stored<'r, F, A, N>,
     ) -> Measured {
-        let mut sum = self.failures;
-        for place in 0..ACCOUNTS {
-            if let Some(account) = store.account(account_id(place)) {
-                sum = mixed(sum, low(account.debits_pending));
-                sum = mixed(sum, low(account.debits_posted));
-                sum = mixed(sum, low(account.credits_pending));
-                sum = mixed(sum, low(account.credits_posted));
-            }
-        }
-        Measured {
-            checksum: sum,
-            times: self.times,
+        Measured::new(accounts_sum(store, self.failures), self.times)
+    }
+}
+
+/// A sum of a number and the balances of all accounts.
+pub(crate) fn accounts_sum<'r, F: SealRows<A> + Drop, A: Allocator + Copy, N: Naming>(
+    store: &Stored<'r, F, A, N>,
+    number: u64,
+) -> u64 {
+    let mut sum = number;
+    for place in 0..ACCOUNTS {
+        if let Some(account) = store.account(account_id(place)) {
+            sum = mixed(sum, low(account.debits_pending));
+            sum = mixed(sum, low(account.debits_posted));
+            sum = mixed(sum, low(account.credits_pending));
+            sum = mixed(sum, low(account.credits_posted));
         }
     }
+    sum
 }
 
 /// The accounts of a batch of the greatest length, by its place.

@@ -2,7 +2,7 @@
 ghost use Rattle.std.specs.Prelude.{◌<◌, ◌≤◌};
 
 use crate::numbers::Generator;
-use std::alloc::{AllocError, Global};
+use std::alloc::{AllocError, Allocator, Global};
 use tf_records::{Account, Transfer};
 
 /// How many accounts there are. Their ids are 1 and up.
@@ -88,7 +88,11 @@ impl Transfers {
     }
 
     /// So many transfers with the next ids.
-    pub(crate) fn batch(&mut self, alloc: Global, count: u64) -> Result<Vec<Transfer>, AllocError> {
+    pub(crate) fn batch<A: Allocator>(
+        &mut self,
+        alloc: A,
+        count: u64,
+    ) -> Result<Vec<Transfer, A>, AllocError> {
         let mut events = Vec::new(alloc);
         for _ in 0..count {
             events.push(self.transfer())?;

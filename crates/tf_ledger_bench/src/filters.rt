@@ -97,6 +97,11 @@ impl Asked {
     }
 }
 
+/// A filter of the first transfers of any account.
+pub(crate) fn first_of_account(numbers: &mut Generator) -> AccountFilter {
+    of_account(numbers, ACCOUNTS, SHORT, BOTH)
+}
+
 /// A filter of one of so many accounts.
 fn of_account(numbers: &mut Generator, accounts: u64, limit: u32, flags: u32) -> AccountFilter
     requires { 0 < accounts }

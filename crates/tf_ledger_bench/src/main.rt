@@ -1,7 +1,8 @@
 //! The workloads of a ledger over the forest and its versions, timed.
 //!
 //! `tf_ledger_bench WORKLOAD COUNT SEED merged` (or `unmerged`) runs one and prints its checksum, and nanoseconds: in all, of
-//! the batch that took longest, of events or answers, of publishes, and of merges. Set-up isn't timed.
+//! the batch that took longest, of events or answers, of publishes, and of merges; beside readers also from the writer's start
+//! to its end, of the batch and of the publish that took longest, and how many queries the readers made. Set-up isn't timed.
 //! `tf_ledger_bench checksums COUNT SEED merged` prints the checksum of each workload, and without arguments the program
 //! lists them. `bench/run` compares them with the same in plain Rust.
 #![tactic(auto)]
@@ -15,6 +16,7 @@ mod numbers;
 mod opening;
 mod pending;
 mod queries;
+mod sharing;
 mod store;
 mod times;
 mod workload;
@@ -27,7 +29,6 @@ use std::rt::Env;
 use std::sync::Wait;
 use std::thread::Threads;
 use std::time::Clock;
-use times::Measured;
 use workload::{Run, WORKLOADS, task_named};
 
 fn main(rt: HostRuntime) -> ExitCode {
@@ -102,9 +103,13 @@ fn measure<R: Print + Clock + AllocGlobal + Wait + Threads + Sync>(
     let Some(task) = task_named(name) else {
         return usage(rt);
     };
-    let Measured { checksum, times } = run_task(rt, task, run)?;
+    let measured = run_task(rt, task, run)?;
+    let times = measured.times;
     let spent = times.spent;
-    print!(rt; "{checksum} {} {}", spent.whole(), times.worst)?;
-    println!(rt; " {} {} {}", spent.events, spent.publishes, spent.merges)?;
+    print!(rt; "{} {} {}", measured.checksum, spent.whole(), times.worst)?;
+    print!(rt; " {} {} {}", spent.events, spent.publishes, spent.merges)?;
+    let beside = measured.beside;
+    print!(rt; " {} {}", beside.wall, beside.batch)?;
+    println!(rt; " {} {}", beside.publish, beside.queries)?;
     Ok(())
 }

@@ -16,6 +16,7 @@ use crate::fault::Fault;
 use crate::ingest::{ingest, ingest_chains, ingest_small};
 use crate::pending::run_pending;
 use crate::queries::{ask, ask_all, look_up};
+use crate::sharing::share;
 use crate::store::Stored;
 use crate::times::Measured;
 use crate::workload::{Run, Task};
@@ -109,6 +110,7 @@ where
             let version = filled(rt, alloc, store, run, ids)?;
             look_up(rt, &version, run, ids)
         }
+        Task::Shared(readers) => share(rt, run, readers),
     }
 }
 

@@ -83,10 +83,7 @@ fn measured(checksum: u64, nanoseconds: u128) -> Measured {
         events: nanoseconds,
         ..Spent::NONE
     };
-    Measured {
-        checksum,
-        times: Times::NONE.with(&spent),
-    }
+    Measured::new(checksum, Times::NONE.with(&spent))
 }
 
 /// The answer of one filter.

@@ -58,11 +58,45 @@ impl Times {
     }
 }
 
+/// What was measured beside readers.
+#[derive(Clone, Copy)]
+pub(crate) struct Beside {
+    /// From the start to the end of the writer.
+    pub(crate) wall: u128,
+    /// How long the batch and the publish took that took longest.
+    pub(crate) batch: u128,
+    pub(crate) publish: u128,
+    /// How many queries the readers made, which is no time.
+    pub(crate) queries: u64,
+}
+
+impl Beside {
+    /// There were none.
+    pub(crate) const NONE: Beside = Beside {
+        wall: 0,
+        batch: 0,
+        publish: 0,
+        queries: 0,
+    };
+}
+
 /// What a workload gave, and how long it took.
 #[derive(Clone, Copy)]
 pub(crate) struct Measured {
     pub(crate) checksum: u64,
     pub(crate) times: Times,
+    pub(crate) beside: Beside,
+}
+
+impl Measured {
+    /// What a workload gave that has no readers.
+    pub(crate) fn new(checksum: u64, times: Times) -> Self {
+        Measured {
+            checksum,
+            times,
+            beside: Beside::NONE,
+        }
+    }
 }
 
 /// The nanoseconds since a moment.

@@ -40,6 +40,8 @@ pub(crate) enum Task {
     AskAll(Asked),
     /// Transfers are looked up.
     LookUp(Ids),
+    /// Transfers are stored while so many threads read.
+    Shared(u32),
 }
 
 /// Something to measure.
@@ -50,7 +52,7 @@ pub(crate) struct Workload {
     pub(crate) task: Task,
 }
 
-pub(crate) const WORKLOADS: [Workload; 18] = [
+pub(crate) const WORKLOADS: [Workload; 21] = [
     Workload {
         name: "ingest_rising",
         task: Task::Ingest(Ids::Rising),
@@ -122,6 +124,18 @@ pub(crate) const WORKLOADS: [Workload; 18] = [
     Workload {
         name: "look_up_random",
         task: Task::LookUp(Ids::Random),
+    },
+    Workload {
+        name: "shared_1",
+        task: Task::Shared(1),
+    },
+    Workload {
+        name: "shared_3",
+        task: Task::Shared(3),
+    },
+    Workload {
+        name: "shared_16",
+        task: Task::Shared(16),
     },
 ];
 
