@@ -54,10 +54,9 @@ SETTLED = (
     "merges it in the writer's thread: such rows could be merged before, by others."
 )
 SEARCHES = (
-    "by answers of both lengths some 1.8 microseconds of a query come before its first row, for places of 64 tables in each "
-    "prefix, boxes, and a search by halving in each table that has rows; a rank of each eighth key in a run of its own would "
-    "shorten that, and it was proved of tables alone: with one more run in each, the checker stops at its limits where the "
-    "type of all rows is compared."
+    "by answers of both lengths some 2 microseconds of a query come before its first row, half of them for setting scans to zero "
+    "and moving them: each has places for 64 tables in itself, 2 kilobytes. Places in a box would be moved by their address; then a "
+    "scan would take memory that can be refused."
 )
 NEXT = {name: CHANGES for name, _ in INGEST}
 NEXT |= {name: SETTLED for name in ("pending_post", "pending_void")}
@@ -67,12 +66,14 @@ NEXT |= {
 }
 NEXT |= {name: SEARCHES for name, _ in QUERIES}
 NEXT |= {
-    "query_user_data_64_with_ledger": "each transfer with the value is read from far memory, sixteen at a time, to test its ledger.",
-    "query_ledger_with_code": "each transfer with the code is read from far memory, sixteen at a time, to test its ledger.",
+    "query_user_data_64_with_ledger": "each transfer with the value is found by a search for its table and its place there, and read from far memory "
+    "to test its ledger; an index of ledgers and values together would lead to those wanted alone.",
+    "query_ledger_with_code": "each transfer with the code is found by a search for its table and its place there, and read from far memory "
+    "to test its ledger; an index of ledgers and codes together would lead to those wanted alone.",
     "query_balances_200": "the account's rows are searched three times in each of some 16 tables, for their timestamps, for the first "
     "row and for the rows behind it; a scan that gives rows and not timestamps alone would search once.",
-    "look_up_random": "an id is searched by halving in the one table whose filter tells of it, which ranks of each eighth key would "
-    "shorten, and its record is read from far memory.",
+    "look_up_random": "of each id the filters of some 16 tables are asked, one after another, and then the fences of one of them, a key, its "
+    "value and a record, each of which tells where the next lies: ids could take turns at each step.",
 }
 HEAD = [
     "| workload | transfers | merges | ours, ms | plain Rust, ms | rate | worst batch, ms | plain Rust's, ms | peak MiB | plain Rust's, MiB | events | publishes | merges |",

@@ -1,4 +1,5 @@
 """A store that one thread writes, one merges and others read: `shared` in crates/tf_ledger_bench, beside bench/src/sharing.rs."""
+import os
 import statistics
 import sys
 
@@ -90,9 +91,14 @@ def wanted(sides):
         ratio = ours.queries() / plain.queries()
         met = "met" if ratio >= times else "missed"
         lines.append(f"- with {readers} readers {ratio:.2f} times the queries a second of the ledger under a lock, of at least {times} that are wanted: {met}")
-    alone, most = (sides[readers][0].transfers() for readers in (READERS[0], READERS[-1]))
-    loss = 1 - most / alone
-    lines.append(f"- {READERS[-1]} readers take {loss:.0%} of the transfers a second that there are beside {READERS[0]}, of at most {LOSS:.0%} that are wanted where each thread has a processor: {'met' if loss <= LOSS else 'missed'}")
+    for readers in READERS[1:]:
+        loss = 1 - sides[readers][0].transfers() / sides[READERS[0]][0].transfers()
+        # the readers, who writes and who merges
+        threads, processors = readers + 2, os.cpu_count()
+        met = "met" if loss <= LOSS else "missed"
+        if threads > processors:
+            met += f", though here {threads} threads share {processors}"
+        lines.append(f"- {readers} readers take {max(loss, 0):.0%} of the transfers a second that there are beside {READERS[0]}, of at most {LOSS:.0%} that are wanted where each thread has a processor: {met}")
     return lines
 
 
