@@ -66,6 +66,17 @@ not_below_time a b same n = either (cases_lt a.timestamp b.timestamp) where
       ∙ ap is_lt (sym (nat_cmp_is a.timestamp b.timestamp Less l))))
   either (inr g) = g
 
+-- of two keys with one value, one with no lesser timestamp isn't below the other
+pub not_below : (a b : Key) → a.value ≡ b.value → b.timestamp ≤ a.timestamp → is_lt (key_cmp a b) ≡ false
+not_below a b same late =
+    ap (λ o. is_lt (ordering_then o (nat_cmp a.timestamp b.timestamp))) (sym (nat_cmp_is a.value b.value Equal same))
+    ∙ either (cases_order a.timestamp b.timestamp)
+  where
+    either : (a.timestamp ≡ b.timestamp) ⊎ ((a.timestamp < b.timestamp) ⊎ (b.timestamp < a.timestamp)) → is_lt (nat_cmp a.timestamp b.timestamp) ≡ false
+    either (inl equal) = ap is_lt (sym (nat_cmp_is a.timestamp b.timestamp Equal equal))
+    either (inr (inl less)) = absurd (omega arith)
+    either (inr (inr greater)) = ap is_lt (sym (nat_cmp_is a.timestamp b.timestamp Greater greater))
+
 -- keys between two without a value have none, and lie between them in time
 pub record LiesBetween (least greatest key : Key) : Type 0 where
   pub value : key.value ≡ 0
@@ -105,7 +116,7 @@ module _ {E : Type 0} where
         ap (λ n. (get_or rows n d).0.value) same ∙ last d
 
   -- each row is later than the one before it
-  at_least : (rows : List (Key × E)) (time : ℕ) → IsRising key_cmp rows → HaveNoValue rows → ((d : Key × E) → 0 < length rows → time ≤ (get_or rows 0 d).0.timestamp) → (i : ℕ) (d : Key × E) → i < length rows → time + i ≤ (get_or rows i d).0.timestamp
+  pub at_least : (rows : List (Key × E)) (time : ℕ) → IsRising key_cmp rows → HaveNoValue rows → ((d : Key × E) → 0 < length rows → time ≤ (get_or rows 0 d).0.timestamp) → (i : ℕ) (d : Key × E) → i < length rows → time + i ≤ (get_or rows i d).0.timestamp
   at_least [] time rising none first i d l = absurd (omega arith)
   at_least (r ∷ rows) time rising none first zero d l = let f = first d (omega arith) in omega arith
   at_least (r ∷ rows) time rising none first (suc i) d l =

@@ -1,11 +1,12 @@
 -- What a search in the keys of a table says of its rows.
 use Rattle.std.proofs.Common.{◌≡◌, ℕ, ◌+◌, ◌-◌, ◌<◌, ◌≤◌, List, [], ◌∷◌, length, take, get_or, Option, Some, None, true, false, not, ◌||◌, map, refl, arith, ap, sym, ◌∙◌, subst}
-use Rattle.std.specs.List.{All, zip}
+use Rattle.std.specs.List.{All, slice_get, zip}
 use Rattle.std.proofs.Math.Dec.{ltb}
 use Rattle.std.specs.Ordering.{is_lt, is_eq}
 use Rattle.tf_btree.specs.Rows.{value_at}
 use Rattle.std.proofs.lemmas.Bool.{false≢true, le-ltb}
 use Rattle.std.proofs.lemmas.List.{get_or_default}
+use Rattle.std.proofs.lemmas.Option.{slice_get-get_or}
 use Rattle.std.proofs.lemmas.List.Elements.{All-cons, All-head, All-nil, All-tail}
 use Rattle.tf_table.specs.declared.key.Key.{Key}
 use Rattle.tf_table.specs.declared.entries.Entries.{Entries}
@@ -16,7 +17,7 @@ use Rattle.tf_table.specs.Key.{key_cmp}
 use Rattle.tf_table.specs.Rows.{rows_of, IsLaidOut}
 use Rattle.tf_table.specs.Span.{HasSpan}
 use Rattle.tf_table.specs.Content.{entry_at}
-use Rattle.tf_table.proofs.Dense.{HaveNoValue, LiesBetween, lies_between, none_where_last, rising_pair, time_there}
+use Rattle.tf_table.proofs.Dense.{HaveNoValue, LiesBetween, at_least, lies_between, none_where_last, not_below, rising_pair, time_there}
 use Rattle.tf_table.proofs.Keys.{keys_total, exact_keys, key_itself, same_key}
 use Rattle.tf_table.proofs.LaidOut.{length-rows_of, row_there, key_there}
 use Rattle.tf_table.proofs.Rising.{AllBefore, is_eq-not, value_at-there}
@@ -113,39 +114,59 @@ module _ {V A : Type 0} {span : Option Span} (least greatest : Key) (ks : List K
       ∙ sym (laid.last some)
 
   -- where no row has a value, and there are as many as timestamps from the first to the last
-  module _ (some : 0 < length ks) (none : greatest.value ≡ 0) (many : length ks - 1 ≡ greatest.timestamp - least.timestamp) (key : Key) (from : is_lt (key_cmp key least) ≡ false) (upto : is_lt (key_cmp greatest key) ≡ false) where
+  module _ (some : 0 < length ks) (none : greatest.value ≡ 0) (many : length ks - 1 ≡ greatest.timestamp - least.timestamp) where
     no_values : HaveNoValue (rows_of ks es)
     no_values = none_where_last (rows_of ks es) laid.rising (λ d. ap (λ (k : Key). k.value) (last_row some d) ∙ none)
 
-    between : LiesBetween least greatest key
-    between =
+    no_first_value : least.value ≡ 0
+    no_first_value =
         let d : Key × Option V = (least, None) in
-        let first : least.value ≡ 0 = ap (λ (k : Key). k.value) (sym (first_row some d)) ∙ no_values 0 d (omega (arith, length-laid)) in
-        lies_between least greatest key first none from upto
+        ap (λ (k : Key). k.value) (sym (first_row some d)) ∙ no_values 0 d (omega (arith, length-laid))
 
-    pub dense_within : key.timestamp - least.timestamp < length ks
-    dense_within = let f = between.from in let u = between.upto in omega arith
+    -- so the greatest is as late as there are rows
+    late_enough : least.timestamp + (length ks - 1) ≤ greatest.timestamp
+    late_enough =
+        let d : Key × Option V = (least, None) in
+        let low = at_least (rows_of ks es) least.timestamp laid.rising no_values (λ e l. let f = ap (λ (k : Key). k.timestamp) (first_row some e) in omega arith) (length (rows_of ks es) - 1) d (omega (arith, length-laid)) in
+        let last = ap (λ (k : Key). k.timestamp) (last_row some d) in
+        omega (arith, length-laid)
 
-    dense_row : (d : Key × Option V) → (get_or (rows_of ks es) (key.timestamp - least.timestamp) d).0 ≡ key
-    dense_row d =
-        let within : key.timestamp - least.timestamp < length (rows_of ks es) = omega (arith, length-laid, dense_within) in
-        let f = between.from in
-        let u = between.upto in
-        let last : greatest.timestamp ≡ least.timestamp + (length (rows_of ks es) - 1) = omega (arith, length-laid) in
-        let time = time_there (rows_of ks es) least.timestamp greatest.timestamp laid.rising no_values
-        (λ e l. ap (λ (k : Key). k.timestamp) (first_row some e)) (λ e l. ap (λ (k : Key). k.timestamp) (last_row some e)) last (key.timestamp - least.timestamp) d within in
-        same_key _ key (no_values (key.timestamp - least.timestamp) d within ∙ sym between.value) (omega arith)
+    module _ (key : Key) (from : is_lt (key_cmp key least) ≡ false) (upto : is_lt (key_cmp greatest key) ≡ false) where
+      between : LiesBetween least greatest key
+      between = lies_between least greatest key no_first_value none from upto
 
-    pub dense_found : (e : Option V) → get_or (entries_of (length ks) es) (key.timestamp - least.timestamp) e ≡ e → entry_at key (rows_of ks es) ≡ Some e
-    dense_found e entry =
-        entry_at-found key (key.timestamp - least.timestamp) key e
-        (laid_before key (key.timestamp - least.timestamp) (omega (arith, dense_within)) (λ q d at.
-        let d' : Key × Option V = (d, None) in
-        let less = rising_pair (rows_of ks es) q (key.timestamp - least.timestamp) d' laid.rising (omega arith) (omega (arith, length-laid, dense_within)) in
-        ap (λ k. is_lt (key_cmp k key)) (sym (key_there ks es q d' laid.paired (omega (arith, dense_within))))
-        ∙ ap (λ k. is_lt (key_cmp (get_or (rows_of ks es) q d').0 k)) (sym (dense_row d'))
-        ∙ ap is_lt less))
-        dense_within
-        (sym (dense_row (key, e)) ∙ key_there ks es (key.timestamp - least.timestamp) (key, e) laid.paired dense_within)
-        (ap is_eq (key_itself key))
-        entry
+      pub dense_within : key.timestamp - least.timestamp < length ks
+      dense_within = let f = between.from in let u = between.upto in omega arith
+
+      dense_row : (d : Key × Option V) → (get_or (rows_of ks es) (key.timestamp - least.timestamp) d).0 ≡ key
+      dense_row d =
+          let within : key.timestamp - least.timestamp < length (rows_of ks es) = omega (arith, length-laid, dense_within) in
+          let f = between.from in
+          let u = between.upto in
+          let last : greatest.timestamp ≡ least.timestamp + (length (rows_of ks es) - 1) = omega (arith, length-laid) in
+          let time = time_there (rows_of ks es) least.timestamp greatest.timestamp laid.rising no_values
+          (λ e l. ap (λ (k : Key). k.timestamp) (first_row some e)) (λ e l. ap (λ (k : Key). k.timestamp) (last_row some e)) last (key.timestamp - least.timestamp) d within in
+          same_key _ key (no_values (key.timestamp - least.timestamp) d within ∙ sym between.value) (omega arith)
+
+      pub dense_found : (e : Option V) → get_or (entries_of (length ks) es) (key.timestamp - least.timestamp) e ≡ e → entry_at key (rows_of ks es) ≡ Some e
+      dense_found e entry =
+          entry_at-found key (key.timestamp - least.timestamp) key e
+          (laid_before key (key.timestamp - least.timestamp) (omega (arith, dense_within)) (λ q d at.
+          let d' : Key × Option V = (d, None) in
+          let less = rising_pair (rows_of ks es) q (key.timestamp - least.timestamp) d' laid.rising (omega arith) (omega (arith, length-laid, dense_within)) in
+          ap (λ k. is_lt (key_cmp k key)) (sym (key_there ks es q d' laid.paired (omega (arith, dense_within))))
+          ∙ ap (λ k. is_lt (key_cmp (get_or (rows_of ks es) q d').0 k)) (sym (dense_row d'))
+          ∙ ap is_lt less))
+          dense_within
+          (sym (dense_row (key, e)) ∙ key_there ks es (key.timestamp - least.timestamp) (key, e) laid.paired dense_within)
+          (ap is_eq (key_itself key))
+          entry
+
+    pub dated_there : (t : ℕ) → least.timestamp ≤ t → t - least.timestamp < length ks → entry_at (record { value = 0; timestamp = t }) (rows_of ks es) ≡ slice_get (entries_of (length ks) es) (t - least.timestamp)
+    dated_there t early late =
+        let key : Key = record { value = 0; timestamp = t } in
+        let entries : List (Option V) = entries_of (length ks) es in
+        let entry : Option V = get_or entries (t - least.timestamp) None in
+        let within : t - least.timestamp < length entries = omega (arith, laid.paired) in
+        dense_found key (not_below key least (sym no_first_value) early) (not_below greatest key none (omega (arith, late_enough))) entry (get_or_default entries (t - least.timestamp) entry None within)
+        ∙ sym (slice_get-get_or entries (t - least.timestamp) None within)

@@ -1,5 +1,5 @@
 -- What lists of rows say of a key, newest first. A row is a key with a value, or with None, a tombstone.
-use Rattle.std.specs.Prelude.{◌≡◌, List, [], ◌∷◌, Option, Some, None, Bool, true, false}
+use Rattle.std.specs.Prelude.{◌≡◌, ℕ, ◌-◌, ◌<◌, ◌≤◌, List, [], ◌∷◌, Option, Some, None, Bool, true, false, length, slice_get}
 use Rattle.std.specs.List.{All}
 use Rattle.std.specs.declared.cmp.Ordering.{Ordering}
 use Rattle.tf_btree.specs.Rows.{value_at, with_row}
@@ -49,6 +49,10 @@ rows_with ((key, v) ∷ pairs) = (key, Some v) ∷ rows_with pairs
 -- the entry of a key in one table, if the table has the key
 abbrev pub entry_at : {V : Type 0} → Key → List (Key × Option V) → Option (Option V)
 entry_at key rows = value_at key_cmp key rows
+
+-- the entries are those of one timestamp after another, from this one on, under no value
+abbrev pub AreDated : {V : Type 0} → ℕ → List (Option V) → List (Key × Option V) → Type 0
+AreDated from entries rows = (t : ℕ) → from ≤ t → t - from < length entries → entry_at (record { value = 0; timestamp = t }) rows ≡ slice_get entries (t - from)
 
 -- the entry of a key in tables, newest first: that of the first table that has the key
 abbrev pub entry_of : {V : Type 0} → Key → List (List (Key × Option V)) → Option (Option V)

@@ -1,9 +1,9 @@
 //! A sealed table.
-ghost use Rattle.std.specs.Prelude.{◌≡◌, ◌+◌, ◌^◌, ◌<◌, ◌≤◌, ◌==◌, [], ◌∷◌, ◌++◌, false, length, IfOk, IsSome, None, slice_get};
+ghost use Rattle.std.specs.Prelude.{◌≡◌, ◌+◌, ◌^◌, ◌<◌, ◌≤◌, ◌==◌, [], ◌∷◌, ◌++◌, false, length, IfOk, IfSome, IsSome, None, slice_get};
 ghost use Rattle.std.specs.Option.{option_copied, option_map};
 ghost use Rattle.tf_btree.specs.Rows.{IsRising};
 ghost use Rattle.tf_table.specs.Key.{key_cmp};
-ghost use Rattle.tf_table.specs.Content.{entry_at, AreTombstones, HaveOneEntry};
+ghost use Rattle.tf_table.specs.Content.{entry_at, AreDated, AreTombstones, HaveOneEntry};
 ghost use Rattle.tf_table.specs.First.{IsFirstAbove};
 ghost use Rattle.tf_table.specs.Merge.{seen};
 ghost use Rattle.tf_table.specs.Span.{HasSpan, timestamps};
@@ -95,13 +95,26 @@ impl<V, A: Allocator> Sealed<V, A> {
 
     /// The entry of a key, if the table has the key: its value, or None inside for a tombstone.
     ///
-    /// It takes four comparisons for a key that no row can have, by the least and the greatest key of the table and by the
-    /// span of its timestamps, and else a number that grows with the logarithm of the rows. Of rows without a value, one
-    /// before which no timestamp is missing takes five, and where none is missing at all no key is read. Where there is a
-    /// filter, it tells most keys between the two that the table doesn't have by one word. Where there are fences, mostly ten of
-    /// the comparisons read keys, which lie side by side, and the others read fences; they read more keys where more than eight
+    /// Where there is a filter, it tells by one word of most keys that the table doesn't have them. Of other keys, it takes two
+    /// comparisons for one whose timestamp lies outside the span, two more for one below the least key or above the greatest,
+    /// and else a number that grows with the logarithm of the rows. Of rows without a value, one before which no timestamp is
+    /// missing takes five, and where none is missing at all no key is read. Where there are fences, mostly ten of the
+    /// comparisons read keys, which lie side by side, and the others read fences; they read more keys where more than eight
     /// rows have one value and the values of the table differ by 2^64 or more. No entry is read until the key is found.
+    #[inline]
     pub fn find(&self, key: &Key) -> Option<Option<&V>>
+        ensures { option_map option_copied result ≡ entry_at key.now self.now }
+    {
+        if !self.may_have(key) {
+            return None;
+        }
+        self.search(key)
+    }
+
+    /// The same, by the least and the greatest key, and then by a search. It isn't inlined, so that a look-up that ends before it
+    /// saves no registers.
+    #[inline(never)]
+    fn search(&self, key: &Key) -> Option<Option<&V>>
         ensures { option_map option_copied result ≡ entry_at key.now self.now }
     {
         if key.is_below(&self.least) || self.greatest.is_below(key) {
@@ -111,10 +124,22 @@ impl<V, A: Allocator> Sealed<V, A> {
             let place = key.timestamp.saturating_sub(self.least.timestamp) as usize;
             return Some(self.entries.at(place));
         }
-        if !self.may_have(key) {
+        self.entry_by(key, self.first_look(key))
+    }
+
+    /// The timestamp of the first row, and the entries, where the rows have no value, no timestamp is missing between them and
+    /// the entries don't all repeat one. Of such a table an entry is found by its place. It takes constant time, and reads no row.
+    #[inline]
+    pub fn dated_entries(&self) -> Option<(u64, &[Option<V>])>
+        ensures { IfSome result (λ found. AreDated found.0 found.1.now self.now) }
+    {
+        if !are_dense(self.keys.len(), &self.least, &self.greatest) {
             return None;
         }
-        self.entry_by(key, self.first_look(key))
+        match &self.entries {
+            Entries::Same(_) => None,
+            Entries::Each(entries) => Some((self.least.timestamp, entries.as_slice())),
+        }
     }
 
     /// Where a search for a key begins. Of rows without a value that is where the key stands if no timestamp is missing before
@@ -151,13 +176,13 @@ impl<V, A: Allocator> Sealed<V, A> {
         None
     }
 
-    /// Whether the table may have the key, by the span of its timestamps, and by one word of its filter where there is one:
+    /// Whether the table may have the key, by one word of its filter where there is one, and by the span of its timestamps:
     /// false says that it hasn't.
     #[inline]
     pub fn may_have(&self, key: &Key) -> bool
         ensures { result ≡ false → entry_at key.now self.now ≡ None }
     {
-        self.may_span(key) && self.hints.may_hold(key.value)
+        self.hints.may_hold(key.value) && self.may_span(key)
     }
 
     /// Whether the key's timestamp lies within the span.

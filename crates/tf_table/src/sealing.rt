@@ -9,7 +9,8 @@ use tf_records::Refusal;
 
 /// The rows of a tree as a table. An empty tree gives an empty table.
 ///
-/// It goes over the tree once and copies each row once, and then over the keys alone, for their span and their filter.
+/// It goes over the tree once and copies each row once, and then over the keys alone, for their span, their filter and their
+/// fences.
 /// The keys have their room from the start; so do the entries, from the first one on that differs from the others. The
 /// only refusal is `NoMemory`.
 pub fn seal<V: Repeats, A: Allocator + Clone>(

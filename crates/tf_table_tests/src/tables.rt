@@ -1,5 +1,6 @@
 //! The worked example of two small tables, and each public call once.
 
+mod dated;
 mod edges;
 mod fences;
 mod filter;
