@@ -1,15 +1,16 @@
 -- The first list that has a key, place by place.
-use Rattle.std.proofs.Common.{◌≡◌, ℕ, zero, suc, ◌+◌, ◌<◌, List, [], ◌∷◌, length, map, take, get_or, Option, Some, None, slice_get, refl, sym, ◌∙◌, ap, add-one}
-use Rattle.std.specs.Option.{option_map}
-use Rattle.std.proofs.lemmas.Option.{slice_get-map, slice_get-get_or}
+use Rattle.std.proofs.Common.{◌≡◌, ℕ, zero, suc, ◌+◌, ◌-◌, ◌<◌, ◌≤◌, arith, List, [], ◌∷◌, length, map, take, get_or, Option, Some, None, slice_get, refl, sym, ◌∙◌, ap, add-one}
+use Rattle.std.specs.Option.{option_and_then, option_map}
+use Rattle.std.proofs.lemmas.Option.{option_and_then_some, slice_get-map, slice_get-get_or, slice_get_within}
 use Rattle.tf_table.specs.declared.key.Key.{Key}
 use Rattle.tf_table.specs.declared.span.Span.{Span}
-use Rattle.tf_table.specs.Content.{first_some, entry_at, entry_of}
+use Rattle.tf_table.specs.Content.{first_some, entry_at, entry_of, AreDated}
 use Rattle.tf_table.specs.Span.{HasSpan, timestamps}
 use Rattle.tf_scan.specs.Sets.{is_among}
 use Rattle.tf_scan.proofs.Entries.{entry-absent, entry-outside}
 use Rattle.tf_query.specs.declared.finder.Part.{Part}
-use Rattle.tf_query.specs.Finder.{IsInPart, IsOutside, AreSilent}
+use Rattle.tf_query.specs.Finder.{IsInPart, IsOutside, AreSilent, IsDatedAt}
+use Rattle.tf_manifest.specs.Rows.{key_of}
 
 first_absent : {X : Type 0} (a b : Option X) → first_some a b ≡ None → a ≡ None
 first_absent None b e = refl
@@ -67,3 +68,19 @@ rows_there shown rows_of tables place table rows l is same =
     slice_get-map rows_of (map shown tables) place
     ∙ ap (option_map rows_of) (slice_get-map shown tables place ∙ ap (option_map shown) (slice_get-get_or tables place table l ∙ ap Some (sym is)))
     ∙ ap Some (sym same)
+
+module _ {V : Type 0} where
+  -- a table's entries stand where the table does
+  pub dated_at : (place from : ℕ) (entries : List (Option V)) (lists : List (List (Key × Option V))) (rows : List (Key × Option V)) → slice_get lists place ≡ Some rows → AreDated from entries rows → IsDatedAt place from entries lists
+  dated_at place from entries lists rows there dated = λ t early late. ap (option_and_then (λ rs. entry_at (key_of 0 t) rs)) there ∙ dated t early late
+
+  pub none_dated : (place from : ℕ) (entries : List (Option V)) (lists : List (List (Key × Option V))) → entries ≡ [] → IsDatedAt place from entries lists
+  none_dated place from entries lists none = λ t early late. absurd (omega (arith, ap length none))
+
+  -- an entry that stands in its place is the key's, where no newer table has the timestamp
+  pub entry_in_its_place : (t place from : ℕ) (part : Part) (entries : List (Option V)) (entry : Option V) (lists : List (List (Key × Option V)))
+      → IsDatedAt place from entries lists → AreSilent part (take place lists) → IsInPart part t → from ≤ t → slice_get entries (t - from) ≡ Some entry → entry_of (key_of 0 t) lists ≡ Some entry
+  entry_in_its_place t place from part entries entry lists dated silent inside early found =
+      option_and_then_some (λ rows. entry_at (key_of 0 t) rows) (slice_get lists place) entry
+      (dated t early (slice_get_within entries (t - from) entry found) ∙ found)
+      (λ rows there has. entry_there (key_of 0 t) place lists rows entry (silent (key_of 0 t) inside) there has)

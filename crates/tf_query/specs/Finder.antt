@@ -1,8 +1,10 @@
 -- In which part of time tables have nothing.
-use Rattle.std.specs.Prelude.{◌≡◌, ℕ, ◌≤◌, List, Option, Some, None, ⊤, false, take}
+use Rattle.std.specs.Prelude.{◌≡◌, ℕ, ◌-◌, ◌<◌, ◌≤◌, List, Option, Some, None, ⊤, false, length, slice_get, take}
+use Rattle.std.specs.Option.{option_and_then}
 use Rattle.tf_table.specs.declared.key.Key.{Key}
 use Rattle.tf_table.specs.declared.span.Span.{Span}
-use Rattle.tf_table.specs.Content.{entry_of}
+use Rattle.tf_table.specs.Content.{entry_at, entry_of}
+use Rattle.tf_manifest.specs.Rows.{key_of}
 use Rattle.tf_scan.specs.Place.{is_within}
 use Rattle.tf_query.specs.declared.finder.Part.{Part}
 
@@ -18,6 +20,10 @@ IsOutside (Some span) t = is_within span t ≡ false
 -- the lists have no row in a part of time
 abbrev pub AreSilent : {V : Type 0} → Part → List (List (Key × Option V)) → Type 0
 AreSilent part lists = (key : Key) → IsInPart part key.timestamp → entry_of key lists ≡ None
+
+-- the list at a place has these entries, at one timestamp after another from this one on
+abbrev pub IsDatedAt : {V : Type 0} → ℕ → ℕ → List (Option V) → List (List (Key × Option V)) → Type 0
+IsDatedAt place from entries lists = (t : ℕ) → from ≤ t → t - from < length entries → option_and_then (λ rows. entry_at (key_of 0 t) rows) (slice_get lists place) ≡ slice_get entries (t - from)
 
 -- the first list that has a key stands at the place, those before it have nothing in the part of time, and this is its entry
 pub record IsNewest {V : Type 0} (key : Key) (lists : List (List (Key × Option V))) (place : ℕ) (part : Part) (entry : Option V) : Type 0 where

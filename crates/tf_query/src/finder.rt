@@ -1,11 +1,13 @@
-//! Look-ups of many keys in the tables of a row, one after another.
-ghost use Rattle.std.specs.Prelude.{◌≡◌, ℕ, map, IsTrue, MatchOption, None};
+//! Look-ups of many records in the tables of their row, one after another.
+ghost use Rattle.std.specs.Prelude.{◌≡◌, ℕ, map, IfSome, IsTrue, MatchOption, None, Some};
 ghost use Rattle.std.specs.Option.{option_copied};
 ghost use Rattle.tf_table.specs.Content.{entry_of};
 ghost use Rattle.tf_manifest.specs.Reference.{shown_of};
 ghost use Rattle.tf_manifest.specs.Row.{content_at, lists_of};
-ghost use Rattle.tf_query.specs.Finder.{IsInPart, IsNewest, IsOutside};
+ghost use Rattle.tf_manifest.specs.Rows.{key_of};
+ghost use Rattle.tf_query.specs.Finder.{IsDatedAt, IsInPart, IsNewest, IsOutside};
 
+use crate::reads::key_of;
 use std::alloc::Allocator;
 use std::marker::Model;
 use tf_manifest::{Naming, RowValue, TableRef, Tables};
@@ -62,16 +64,20 @@ impl Part {
     }
 }
 
-/// Looks keys up in the tables of a row, one after another.
+/// Looks records up in the tables of their row, one after another, by their timestamps.
 ///
-/// It keeps the table in which it found the last key, and in which part of time no newer table has anything. Where the next
-/// key lies in it, that table alone is asked first. So of keys with rising or falling timestamps, most cost one look-up in
-/// one table, where the tables of the row follow each other in time.
+/// It keeps the table in which it found the last one, and in which part of time no newer table has anything. Where the next
+/// timestamp lies in it, that table alone is asked first, and where it misses no timestamp the record is read off its place. So
+/// of rising or falling timestamps most cost a few instructions, where the tables of the row follow each other in time.
 #[derive(Drop)]
 pub struct Finder<'t, 'r, V: RowValue, A: Allocator, N: Naming> {
     references: &'t [TableRef<'r, V, A, N>],
     place: usize,
     part: Part,
+    /// Entries of the table at the place, at one timestamp after another.
+    entries: &'r [Option<V>],
+    /// The timestamp of the first of them.
+    from: u64,
 }
 
 impl<'t, 'r, V: RowValue, A: Allocator, N: Naming> Model for Finder<'t, 'r, V, A, N> {
@@ -82,11 +88,11 @@ impl<'t, 'r, V: RowValue, A: Allocator, N: Naming> Model for Finder<'t, 'r, V, A
 
     ghost use Rattle.tf_manifest.specs.Reference.{shown_of};
     ghost use Rattle.tf_manifest.specs.Row.{lists_of};
-    ghost use Rattle.tf_query.specs.Finder.{AreSilent};
+    ghost use Rattle.tf_query.specs.Finder.{AreSilent, IsDatedAt};
 
     ghost view = { λ f. map shown_of f.references.now };
 
-    ghost invariant = { λ f. AreSilent f.part (take f.place (lists_of (map shown_of f.references.now))) };
+    ghost invariant = { λ f. AreSilent f.part (take f.place (lists_of (map shown_of f.references.now))) × IsDatedAt f.place f.from f.entries.now (lists_of (map shown_of f.references.now)) };
 }
 
 impl<'t, 'r, V: RowValue, A: Allocator, N: Naming> Finder<'t, 'r, V, A, N> {
@@ -98,21 +104,49 @@ impl<'t, 'r, V: RowValue, A: Allocator, N: Naming> Finder<'t, 'r, V, A, N> {
             references: tables.references(),
             place: 0,
             part: Part::all(),
+            entries: &[],
+            from: 0,
         }
     }
 
-    /// The value of a key in the tables' content.
-    pub fn find(&mut self, key: &Key) -> Option<&'r V>
-        ensures found { option_copied result ≡ content_at key.now self.old }
+    /// The value at a timestamp in the tables' content.
+    #[inline]
+    pub fn find(&mut self, timestamp: u64) -> Option<&'r V>
+        ensures found { option_copied result ≡ content_at (key_of 0 timestamp) self.old }
         ensures same { self.new ≡ self.old }
     {
-        if self.part.has(key.timestamp) && self.place < self.references.len() {
-            let found = self.references[self.place].table().table().find(key);
+        if let Some(entry) = self.entry_in_place(timestamp) {
+            return entry;
+        }
+        self.find_in_table(timestamp)
+    }
+
+    /// The entry at a timestamp, if its place in the last table is known.
+    #[inline]
+    fn entry_in_place(&self, timestamp: u64) -> Option<Option<&'r V>>
+        ensures { IfSome result (λ entry. entry_of (key_of 0 timestamp) (lists_of self.now) ≡ Some (option_copied entry)) }
+    {
+        if timestamp < self.from || !self.part.has(timestamp) {
+            return None;
+        }
+        let entry = self.entries.get((timestamp - self.from) as usize)?;
+        Some(entry.as_ref())
+    }
+
+    /// The same as `find`, by the last table, and then by all of them.
+    #[inline(never)]
+    fn find_in_table(&mut self, timestamp: u64) -> Option<&'r V>
+        ensures found { option_copied result ≡ content_at (key_of 0 timestamp) self.old }
+        ensures same { self.new ≡ self.old }
+    {
+        let key = key_of(0, timestamp);
+        if self.part.has(timestamp) && self.place < self.references.len() {
+            let found = self.references[self.place].table().table().find(&key);
             if let Some(entry) = found {
                 return entry;
             }
         }
-        self.search(key)
+        self.search(&key)
     }
 
     /// The same, by all tables from the newest on.
@@ -121,9 +155,29 @@ impl<'t, 'r, V: RowValue, A: Allocator, N: Naming> Finder<'t, 'r, V, A, N> {
         ensures same { self.new ≡ self.old }
     {
         let (place, part, entry) = newest(self.references, key)?;
+        let (from, entries) = dated_entries(self.references, place);
         self.place = place;
         self.part = part;
+        self.from = from;
+        self.entries = entries;
         entry
+    }
+}
+
+/// Entries of the table at a place, at one timestamp after another, and the first timestamp. There are none where the table
+/// doesn't have them side by side.
+fn dated_entries<'r, V: RowValue, A: Allocator, N: Naming>(
+    references: &[TableRef<'r, V, A, N>],
+    place: usize,
+) -> (u64, &'r [Option<V>])
+    ensures { IsDatedAt place result.0 result.1.now (lists_of (map shown_of references.now)) }
+{
+    if place >= references.len() {
+        return (0, &[]);
+    }
+    match references[place].table().table().dated_entries() {
+        Some(found) => found,
+        None => (0, &[]),
     }
 }
 

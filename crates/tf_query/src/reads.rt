@@ -106,6 +106,7 @@ pub fn push_record<T: Copy + Drop, B: Allocator>(rows: &mut Vec<T, B>, found: Op
 }
 
 /// The transfer with this timestamp, where its table has it, by what looked for others before it.
+#[inline]
 pub fn found_transfer<'r, A: Allocator, N: Naming>(
     transfers: &mut Finder<'_, 'r, Stored<Transfer>, A, N>,
     timestamp: u64,
@@ -113,7 +114,7 @@ pub fn found_transfer<'r, A: Allocator, N: Naming>(
     ensures found { option_copied result ≡ stored_record (content_at (key_of 0 timestamp) transfers.old) }
     ensures same { transfers.new ≡ transfers.old }
 {
-    let stored = transfers.find(&key_of(0, timestamp))?;
+    let stored = transfers.find(timestamp)?;
     Some(&stored.record)
 }
 
