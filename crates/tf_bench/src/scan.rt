@@ -1,5 +1,5 @@
 //! Workloads over scans of a row whose tables follow each other in time.
-ghost use Rattle.std.specs.Prelude.{◌≡◌, ◌≤◌};
+ghost use Rattle.std.specs.Prelude.{◌≡◌, ◌≤◌, IfOk};
 
 use crate::keys::mixed;
 use crate::row::push_table;
@@ -124,16 +124,20 @@ fn take<N: Naming, R: AllocGlobal>(
     room: &mut [u64],
 ) -> Result<usize, AllocError> {
     match scanned {
-        Scanned::First | Scanned::All => Ok(take_multiples(row, direction, room)),
+        Scanned::First | Scanned::All => take_multiples(rt, row, direction, room),
         Scanned::Union => take_union(rt, row, direction, room),
         Scanned::Intersection => take_intersection(rt, row, direction, room),
     }
 }
 
 /// The same of the multiples of 3.
-fn take_multiples<N: Naming>(row: &Row<'_, N>, direction: Direction, room: &mut [u64]) -> usize {
-    let mut scan: Scan<_, Global> = Scan::leaf(Prefix::new(row, 3, direction));
-    scan.take_into(room)
+fn take_multiples<N: Naming, R: AllocGlobal>(
+    rt: &R,
+    row: &Row<'_, N>,
+    direction: Direction,
+    room: &mut [u64],
+) -> Result<usize, AllocError> {
+    Ok(multiples(rt, row, 3, direction)?.take_into(room))
 }
 
 /// The same of the multiples of 2 and of 3.
@@ -143,7 +147,8 @@ fn take_union<N: Naming, R: AllocGlobal>(
     direction: Direction,
     room: &mut [u64],
 ) -> Result<usize, AllocError> {
-    let (left, right) = (multiples(row, 2, direction), multiples(row, 3, direction));
+    let left = multiples(rt, row, 2, direction)?;
+    let right = multiples(rt, row, 3, direction)?;
     let mut scan = Scan::union(rt.alloc(), left, right).map_err(|_| AllocError)?;
     Ok(scan.take_into(room))
 }
@@ -155,20 +160,22 @@ fn take_intersection<N: Naming, R: AllocGlobal>(
     direction: Direction,
     room: &mut [u64],
 ) -> Result<usize, AllocError> {
-    let (left, right) = (multiples(row, 2, direction), multiples(row, 199, direction));
+    let left = multiples(rt, row, 2, direction)?;
+    let right = multiples(rt, row, 199, direction)?;
     let mut scan = Scan::intersection(rt.alloc(), left, right).map_err(|_| AllocError)?;
     Ok(scan.take_into(room))
 }
 
 /// The multiples of a number in the row.
-fn multiples<'r, N: Naming>(
+fn multiples<'r, N: Naming, R: AllocGlobal>(
+    rt: &R,
     row: &Row<'r, N>,
     step: u128,
     direction: Direction,
-) -> Scan<Prefix<'r, (), Global>, Global>
-    ensures { result.direction ≡ direction }
+) -> Result<Scan<Prefix<'r, (), Global>, Global>, AllocError>
+    ensures { IfOk result (λ scan. scan.direction ≡ direction) }
 {
-    Scan::leaf(Prefix::new(row, step, direction))
+    Scan::leaf(rt.alloc(), Prefix::new(row, step, direction)).map_err(|_| AllocError)
 }
 
 /// A row of so many tables of the multiples up to `count`. Each has those above the multiples of the table before.

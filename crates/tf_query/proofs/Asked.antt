@@ -18,10 +18,8 @@ use Rattle.tf_query.specs.Asked.{account_fields_at, account_filter_at, asks_no_f
 use Rattle.tf_query.specs.Conditions.{account_conditions, asks_nothing, field_conditions, meets_all, transfer_conditions}
 use Rattle.tf_query.specs.declared.residual.Residual.{Residual}
 use Rattle.tf_query.specs.Residual.{AreFirstPassing, first_passing}
-use Rattle.tf_query.specs.Reads.{has_entry}
 use Rattle.tf_query.specs.Windows.{AreFirst, first_within}
 use Rattle.tf_records.specs.declared.transfer.Transfer.{Transfer}
-use Rattle.tf_query.proofs.Narrowing.{none-asked, zero-met}
 
 -- what is read at the first timestamps in a window
 pub answered : {T : Type 0} (read : ℕ → Option T) (w : Window) (accepts : ℕ → Bool) (timestamps : List ℕ) (answer : List T) → AreFirst w accepts timestamps → ((left : List ℕ) → IsInOrder w.direction left → ((t : ℕ) → is_among t left ≡ accepts t) → filter_map read (first_within w left) ≡ answer) → filter_map read timestamps ≡ answer
@@ -63,13 +61,6 @@ account-members view filter conditions both left e sides members t =
     ∙ ap (λ b. b && meets_all view conditions t) (sides t)
     ∙ ap (λ cs. side_at view filter t && meets_all view cs t) e
     ∙ side-first (side_at view filter t) (meets_at view unit.TransferUserData128 filter.user_data_128 t) (meets_at view unit.TransferUserData64 filter.user_data_64 t) (meets_at view unit.TransferUserData32 filter.user_data_32 t) (meets_at view unit.TransferCode filter.code t)
-
--- of those sides, where no field is asked for
-pub unasked-members : {T E : Type 0} (r : Result T E) (left : T → List ℕ) (view : View) (filter : AccountFilter) → list_all asks_nothing (field_conditions filter) ≡ true → IfOk r (λ s. (t : ℕ) → is_among t (left s) ≡ side_at view filter t) → IfOk r (λ s. (t : ℕ) → is_among t (left s) ≡ account_filter_at view filter t)
-unasked-members (Ok s) left view filter none sides =
-    account-members view filter (field_conditions filter) (left s) (left s) refl sides
-    (λ (t : ℕ). none-asked asks_nothing (λ (k : Condition). meets_at view k.row k.value t) (field_conditions filter) (is_among t (left s)) (λ (k : Condition). zero-met k.value (has_entry view k.row k.value t)) none)
-unasked-members (Err e) left view filter none sides = tt
 
 -- ---- all transfers, and all accounts
 

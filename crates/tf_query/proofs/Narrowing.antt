@@ -1,9 +1,15 @@
 -- Conditions that are met one after another.
-use Rattle.std.proofs.Common.{◌≡◌, ◌∙◌, sym, refl, ap, ℕ, ◌+◌, ◌<◌, Bool, true, false, not, ◌&&◌, ◌||◌, List, [], ◌∷◌, take, length, get_or}
-use Rattle.std.specs.Prelude.{nat_eq}
+use Rattle.std.proofs.Common.{◌≡◌, ◌∙◌, sym, refl, ap, ℕ, ◌+◌, ◌<◌, Bool, true, false, not, ◌&&◌, ◌||◌, List, take, length, get_or}
+use Rattle.std.specs.Prelude.{nat_eq, Result, Ok, Err, IfOk}
+use Rattle.std.specs.Result.{IsOkAnd}
 use Rattle.std.specs.List.{list_all}
-use Rattle.std.proofs.lemmas.Bool.{and_parts, ne_eqb}
+use Rattle.std.proofs.lemmas.Bool.{ne_eqb}
 use Rattle.std.proofs.lemmas.List.Folds.{list_all_more}
+
+-- what holds of a value that there is, by both
+pub ok-both : {T E C : Type 0} (r : Result T E) (P Q : T → Type 0) → IsOkAnd r P → IfOk r Q → ((x : T) → P x → Q x → C) → C
+ok-both (Ok x) P Q p q k = k x p q
+ok-both (Err e) P Q p q k = absurd p
 
 and-true : (b : Bool) → (b && true) ≡ b
 and-true true = refl
@@ -43,16 +49,3 @@ one-met p xs i d new old first h e f =
 pub one-asked : {X : Type 0} (p : X → Bool) (xs : List X) (i : ℕ) (d : X) (new old first : Bool) → i < length xs → new ≡ (old || not (p (get_or xs i d))) → old ≡ (first || not (list_all p (take i xs))) → new ≡ (first || not (list_all p (take (i + 1) xs)))
 one-asked p xs i d new old first h e f =
     e ∙ ap (λ b. b || not (p (get_or xs i d))) f ∙ or-not first (list_all p (take i xs)) (p (get_or xs i d)) ∙ ap (λ b. first || not b) (sym (list_all_more p xs i d h))
-
--- where each condition asks for nothing, each is met
-all-met : {X : Type 0} (nothing met : X → Bool) (xs : List X) → ((x : X) → nothing x ≡ true → met x ≡ true) → list_all nothing xs ≡ true → list_all met xs ≡ true
-all-met nothing met [] h e = refl
-all-met nothing met (x ∷ xs) h e =
-    let parts = and_parts (nothing x) (list_all nothing xs) e in
-    rw (h x parts.0) (all-met nothing met xs h parts.1)
-
-pub none-asked : {X : Type 0} (nothing met : X → Bool) (xs : List X) (b : Bool) → ((x : X) → nothing x ≡ true → met x ≡ true) → list_all nothing xs ≡ true → b ≡ (b && list_all met xs)
-none-asked nothing met xs b h e = rw (all-met nothing met xs h e) (sym (and-true b))
-
-pub zero-met : (v : ℕ) (h : Bool) → nat_eq v 0 ≡ true → (nat_eq v 0 || h) ≡ true
-zero-met v h e = rw e refl

@@ -4,7 +4,7 @@ use Rattle.std.specs.Prelude.{nat_lt, nat_le, nat_eq, slice_get}
 use Rattle.std.proofs.Math.Seq.{take-append-add}
 use Rattle.std.proofs.lemmas.List.{drop_all, length-append, length-drop, length-take-le, take_at, take-take}
 use Rattle.std.specs.List.{filter, AllByRecursion}
-use Rattle.std.proofs.lemmas.Bool.{ltb-true, ltb-false, leb-false, le-leb, lt-leb, and_parts, and_right, and_left, false≢true, true≢false, ne_eqb}
+use Rattle.std.proofs.lemmas.Bool.{ltb-true, ltb-false, leb-false, le-leb, lt-leb, and_parts, and_right, and_left, false≢true, true≢false, ne_eqb, le-ltb}
 use Rattle.tf_journal.specs.Filter.{is_within}
 use Rattle.tf_scan.specs.declared.direction.Direction.{Direction}
 use Rattle.tf_scan.specs.declared.direction.Direction.TheVariants.{Rising, Falling}
@@ -132,6 +132,9 @@ unbounded-from d r w ts e h o = record {
 }
 
 -- ---- the first bound
+
+pub no-lower : (w : Window) → w.low ≡ 0 → (t : ℕ) → is_early Rising w t ≡ false
+no-lower w e t = le-ltb t w.low (omega (arith, e))
 
 pub no-upper : (w : Window) → w.high ≡ 0 → (t : ℕ) → is_early Falling w t ≡ false
 no-upper w e t = rw e refl

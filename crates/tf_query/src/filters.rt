@@ -36,7 +36,7 @@ pub fn account_timestamps<A: Allocator, N: Naming, B: Allocator + Copy>(
 {
     let window = Window::of_account_filter(filter);
     match account_scan(alloc, manifest, window.direction, filter) {
-        Ok(mut scan) => timestamps_within(alloc, &mut scan, &window),
+        Ok(scan) => timestamps_within(alloc, scan, &window),
         Err(refusal) => Err(refusal),
     }
 }
@@ -58,10 +58,10 @@ fn transfer_timestamps<A: Allocator, N: Naming, B: Allocator + Copy>(
         None,
         &transfer_conditions(filter),
     ) {
-        Ok(Some(mut scan)) => timestamps_within(alloc, &mut scan, &window),
+        Ok(Some(scan)) => timestamps_within(alloc, scan, &window),
         Ok(None) => {
-            let mut scan = object_scan(manifest.transfers.row(0), window.direction);
-            timestamps_within(alloc, &mut scan, &window)
+            let scan = object_scan(alloc, manifest.transfers.row(0), window.direction)?;
+            timestamps_within(alloc, scan, &window)
         }
         Err(refusal) => Err(refusal),
     }
@@ -84,10 +84,10 @@ fn found_account_timestamps<A: Allocator, N: Naming, B: Allocator + Copy>(
         None,
         &account_conditions(filter),
     ) {
-        Ok(Some(mut scan)) => timestamps_within(alloc, &mut scan, &window),
+        Ok(Some(scan)) => timestamps_within(alloc, scan, &window),
         Ok(None) => {
-            let mut scan = object_scan(manifest.accounts.row(0), window.direction);
-            timestamps_within(alloc, &mut scan, &window)
+            let scan = object_scan(alloc, manifest.accounts.row(0), window.direction)?;
+            timestamps_within(alloc, scan, &window)
         }
         Err(refusal) => Err(refusal),
     }
@@ -111,7 +111,7 @@ fn tested_account_transfers<A: Allocator, N: Naming, B: Allocator + Copy>(
     let residual = Residual::of_account_filter(tested, filter);
     let lead = account_lead(tested, filter);
     match account_scan(alloc, manifest, window.direction, &lead) {
-        Ok(mut scan) => passing_within(alloc, manifest, &residual, &mut scan, &window),
+        Ok(scan) => passing_within(alloc, manifest, &residual, scan, &window),
         Err(refusal) => Err(refusal),
     }
 }
@@ -137,10 +137,10 @@ fn tested_transfers<A: Allocator, N: Naming, B: Allocator + Copy>(
         None,
         &transfer_conditions(&query_lead(tested, filter)),
     ) {
-        Ok(Some(mut scan)) => passing_within(alloc, manifest, &residual, &mut scan, &window),
+        Ok(Some(scan)) => passing_within(alloc, manifest, &residual, scan, &window),
         Ok(None) => {
-            let mut scan = object_scan(manifest.transfers.row(0), window.direction);
-            passing_within(alloc, manifest, &residual, &mut scan, &window)
+            let scan = object_scan(alloc, manifest.transfers.row(0), window.direction)?;
+            passing_within(alloc, manifest, &residual, scan, &window)
         }
         Err(refusal) => Err(refusal),
     }

@@ -44,7 +44,7 @@ fn asks_whole_account(filter: &AccountFilter) -> bool
 
 /// The first timestamps in a filter's window, in its direction, at which the row of sums has something of its account. They
 /// are read off that row alone.
-fn summed_timestamps<A: Allocator, N: Naming, B: Allocator>(
+fn summed_timestamps<A: Allocator, N: Naming, B: Allocator + Copy>(
     alloc: B,
     manifest: &Manifest<'_, A, N>,
     filter: &AccountFilter,
@@ -54,8 +54,7 @@ fn summed_timestamps<A: Allocator, N: Naming, B: Allocator>(
 {
     let window = Window::of_account_filter(filter);
     let sums = Prefix::new(manifest.sums.row(0), filter.account_id, window.direction);
-    let mut scan = Scan::leaf(sums);
-    timestamps_within(alloc, &mut scan, &window)
+    timestamps_within(alloc, Scan::leaf(alloc, sums)?, &window)
 }
 
 /// The timestamps at which a valid filter asks for balances of its account, in its direction.

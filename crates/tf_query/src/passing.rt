@@ -100,27 +100,27 @@ fn push_passing<A: Allocator, N: Naming, B: Allocator>(
 /// It seeks the first bound and reads on in parts, none of them longer than what is asked for, until one has the last
 /// timestamp in the window or there are as many rows as are asked for. Each timestamp that was read costs one look-up.
 /// `NoMemory` is the only refusal.
-pub fn passing_within<P: Leaf, A: Allocator, N: Naming, B: Allocator>(
+pub fn passing_within<P: Leaf + Drop, A: Allocator, N: Naming, B: Allocator>(
     alloc: B,
     manifest: &Manifest<'_, A, N>,
     residual: &Residual,
-    scan: &mut Scan<P, B>,
+    mut scan: Scan<P, B>,
     window: &Window,
 ) -> Result<Vec<Transfer, B>, Refusal>
-    ensures ok { IfOk result (λ rows. rows.items ≡ first_passing manifest.now residual.now window.now scan.old.left) }
-    ensures in_order { IfOk result (λ rows. IsInOrder scan.old.direction scan.old.left) }
+    ensures ok { IfOk result (λ rows. rows.items ≡ first_passing manifest.now residual.now window.now scan.left) }
+    ensures in_order { IfOk result (λ rows. IsInOrder scan.direction scan.left) }
     ensures room { IfOk result (λ rows. vec_capacity rows ≤ window.now.most) }
     ensures refusal { IfErr result (λ refusal. refusal ≡ Refusal.NoMemory) }
 {
-    seek_first(scan, window);
+    seek_first(&mut scan, window);
     let asked = window.most.min(PART);
     let mut part = [0; PART];
-    let mut count = read_part(scan, window, asked, &mut part);
+    let mut count = read_part(&mut scan, window, asked, &mut part);
     let room = if count < asked { count } else { window.most };
     let mut rows = Vec::with_capacity(alloc, room)?;
     push_passing(manifest, residual, &part[..count], window.most, &mut rows);
     while count == asked && rows.len() < window.most {
-        count = read_part(scan, window, asked, &mut part);
+        count = read_part(&mut scan, window, asked, &mut part);
         push_passing(manifest, residual, &part[..count], window.most, &mut rows);
     }
     Ok(rows)

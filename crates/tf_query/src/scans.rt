@@ -1,5 +1,5 @@
 //! The scans that filters are answered by.
-ghost use Rattle.std.specs.Prelude.{◌≡◌, ◌&&◌, ◌||◌, ℕ, true, not, is_some, IfErr, IfOk, IfSome};
+ghost use Rattle.std.specs.Prelude.{◌≡◌, ◌&&◌, ◌||◌, ℕ, true, not, is_some, IfErr, IfOk, IfSome, IsOkAnd};
 ghost use Rattle.std.specs.List.{list_all};
 ghost use Rattle.tf_journal.specs.Filter.{asks_credits, asks_debits};
 ghost use Rattle.tf_manifest.specs.Row.{content_at};
@@ -13,57 +13,83 @@ use crate::condition::{Condition, field_conditions};
 use std::alloc::Allocator;
 use tf_manifest::{Manifest, Naming, RowValue, Tables, UnitRow};
 use tf_records::{AccountFilter, Refusal};
-use tf_scan::{Direction, Prefix, Scan};
+use tf_scan::{Direction, Leaf, Prefix, Scan};
 
 /// Timestamps under values of indexes, joined in boxes on a query's allocator.
 pub type IndexScan<'r, A, B> = Scan<Prefix<'r, (), A>, B>;
 
-/// The timestamps under a value of an index. It takes no memory.
+/// The timestamps under a value of an index. `NoMemory` is the only refusal.
 fn index_scan<'r, A: Allocator, N: Naming, B: Allocator>(
+    alloc: B,
     manifest: &Manifest<'r, A, N>,
     direction: Direction,
     row: UnitRow,
     value: u128,
-) -> IndexScan<'r, A, B>
-    ensures direction { result.direction ≡ direction }
-    ensures members { (t : ℕ) → is_among t result.left ≡ has_entry manifest.now row value t }
-{
-    Scan::leaf(Prefix::new(manifest.units.row(row.index()), value, direction))
-}
-
-/// The timestamps of all records of a kind, by the row that has them. It takes no memory.
-pub fn object_scan<'r, V: RowValue, A: Allocator, N: Naming, B: Allocator>(
-    objects: &Tables<'r, V, A, N>,
-    direction: Direction,
-) -> Scan<Prefix<'r, V, A>, B>
-    ensures direction { result.direction ≡ direction }
-    ensures members { (t : ℕ) → is_among t result.left ≡ is_some (content_at (key_of 0 t) objects.now) }
-{
-    Scan::leaf(Prefix::new(objects, 0, direction))
-}
-
-/// Those timestamps of a scan that are left in another one, or all of them where there is no other. `NoMemory` is the only
-/// refusal.
-fn narrowed_by<'r, A: Allocator, B: Allocator + Copy>(
-    alloc: B,
-    left: Option<IndexScan<'r, A, B>>,
-    scan: IndexScan<'r, A, B>,
 ) -> Result<IndexScan<'r, A, B>, Refusal>
-    requires { IfSome left (λ s. s.direction ≡ scan.direction) }
-    ensures direction { IfOk result (λ narrowed. narrowed.direction ≡ scan.entry.direction) }
-    ensures members { IfOk result (λ narrowed. (t : ℕ) → is_among t narrowed.left ≡ (is_left t left.entry && is_among t scan.entry.left)) }
+    ensures direction { IfOk result (λ scan. scan.direction ≡ direction) }
+    ensures members { IfOk result (λ scan. (t : ℕ) → is_among t scan.left ≡ has_entry manifest.now row value t) }
     ensures refusal { IfErr result (λ refusal. refusal ≡ Refusal.NoMemory) }
 {
-    match left {
-        Some(left) => Scan::intersection(alloc, left, scan),
-        None => Ok(scan),
+    let prefix = Prefix::new(manifest.units.row(row.index()), value, direction);
+    Scan::leaf(alloc, prefix)
+}
+
+/// The timestamps of all records of a kind, by the row that has them. `NoMemory` is the only refusal.
+pub fn object_scan<'r, V: RowValue, A: Allocator, N: Naming, B: Allocator>(
+    alloc: B,
+    objects: &Tables<'r, V, A, N>,
+    direction: Direction,
+) -> Result<Scan<Prefix<'r, V, A>, B>, Refusal>
+    ensures direction { IfOk result (λ scan. scan.direction ≡ direction) }
+    ensures members { IfOk result (λ scan. (t : ℕ) → is_among t scan.left ≡ is_some (content_at (key_of 0 t) objects.now)) }
+    ensures refusal { IfErr result (λ refusal. refusal ≡ Refusal.NoMemory) }
+{
+    Scan::leaf(alloc, Prefix::new(objects, 0, direction))
+}
+
+/// Those timestamps of a scan that are left in another one, or all of them where there is no other. Where the scan was
+/// refused the other one is dropped, and that is the answer. `NoMemory` is the only refusal.
+fn narrowed_by<P: Leaf + Drop, B: Allocator + Copy>(
+    alloc: B,
+    left: Option<Scan<P, B>>,
+    scan: Result<Scan<P, B>, Refusal>,
+) -> Result<Scan<P, B>, Refusal>
+    requires one_direction { IfOk scan (λ s. IfSome left (λ l. l.direction ≡ s.direction)) }
+    requires refusal { IfErr scan (λ refusal. refusal ≡ Refusal.NoMemory) }
+    ensures direction { IfOk result (λ narrowed. IsOkAnd scan (λ s. narrowed.direction ≡ s.direction)) }
+    ensures members { IfOk result (λ narrowed. IsOkAnd scan (λ s. (t : ℕ) → is_among t narrowed.left ≡ (is_left t left && is_among t s.left))) }
+    ensures refusal { IfErr result (λ refusal. refusal ≡ Refusal.NoMemory) }
+{
+    match (left, scan) {
+        (Some(left), Ok(scan)) => Scan::intersection(alloc, left, scan),
+        (None, scan) => scan,
+        (Some(_), Err(refusal)) => Err(refusal),
+    }
+}
+
+/// The timestamps of a scan and of another one. Where that was refused the first is dropped, and that is the answer.
+/// `NoMemory` is the only refusal.
+fn united<P: Leaf + Drop, B: Allocator + Copy>(
+    alloc: B,
+    left: Scan<P, B>,
+    right: Result<Scan<P, B>, Refusal>,
+) -> Result<Scan<P, B>, Refusal>
+    requires one_direction { IfOk right (λ r. r.direction ≡ left.direction) }
+    requires refusal { IfErr right (λ refusal. refusal ≡ Refusal.NoMemory) }
+    ensures direction { IfOk result (λ scan. scan.direction ≡ left.direction) }
+    ensures members { IfOk result (λ scan. IsOkAnd right (λ r. (t : ℕ) → is_among t scan.left ≡ (is_among t left.left || is_among t r.left))) }
+    ensures refusal { IfErr result (λ refusal. refusal ≡ Refusal.NoMemory) }
+{
+    match right {
+        Ok(right) => Scan::union(alloc, left, right),
+        Err(refusal) => Err(refusal),
     }
 }
 
 /// What is left of a scan, or of all timestamps, where conditions have to be met: no scan where there was none and nothing
 /// is asked for.
 ///
-/// It takes two boxes for each field that is asked for but the first, and `NoMemory` is the only refusal.
+/// It takes a box for each field that is asked for, and two more for each but the first. `NoMemory` is the only refusal.
 pub fn narrowed<'r, A: Allocator, N: Naming, B: Allocator + Copy>(
     alloc: B,
     manifest: &Manifest<'r, A, N>,
@@ -80,15 +106,15 @@ pub fn narrowed<'r, A: Allocator, N: Naming, B: Allocator + Copy>(
     let mut left = scan;
     for condition in conditions {
         if condition.value != 0 {
-            let asked = index_scan(manifest, direction, condition.row, condition.value);
+            let asked = index_scan(alloc, manifest, direction, condition.row, condition.value);
             left = Some(narrowed_by(alloc, left, asked)?);
         }
     }
     Ok(left)
 }
 
-/// The timestamps of the transfers that have a filter's account on a side that is asked for. Both sides take two boxes, and
-/// `NoMemory` is the only refusal.
+/// The timestamps of the transfers that have a filter's account on a side that is asked for. Each side takes a box, and
+/// both take two more. `NoMemory` is the only refusal.
 fn sides<'r, A: Allocator, N: Naming, B: Allocator + Copy>(
     alloc: B,
     manifest: &Manifest<'r, A, N>,
@@ -102,15 +128,14 @@ fn sides<'r, A: Allocator, N: Naming, B: Allocator + Copy>(
 {
     let account = filter.account_id;
     if filter.flags & AccountFilter::CREDITS == 0 {
-        let debits = index_scan(manifest, direction, UnitRow::TransferDebit, account);
-        return Ok(debits);
+        return index_scan(alloc, manifest, direction, UnitRow::TransferDebit, account);
     }
-    let credits = index_scan(manifest, direction, UnitRow::TransferCredit, account);
+    let credits = index_scan(alloc, manifest, direction, UnitRow::TransferCredit, account)?;
     if filter.flags & AccountFilter::DEBITS == 0 {
         return Ok(credits);
     }
-    let debits = index_scan(manifest, direction, UnitRow::TransferDebit, account);
-    Scan::union(alloc, debits, credits)
+    let debits = index_scan(alloc, manifest, direction, UnitRow::TransferDebit, account);
+    united(alloc, credits, debits)
 }
 
 /// Whether a filter of an account's transfers asks for none of their fields.
@@ -125,9 +150,6 @@ pub fn asks_no_field(filter: &AccountFilter) -> bool
 
 /// The timestamps of the transfers that a filter of an account's transfers asks for: those of its sides, where its fields
 /// have to be met. `NoMemory` is the only refusal.
-///
-/// A scan has two kilobytes, so where no field is asked for it isn't handed on.
-#[inline(always)]
 pub fn account_scan<'r, A: Allocator, N: Naming, B: Allocator + Copy>(
     alloc: B,
     manifest: &Manifest<'r, A, N>,
@@ -139,22 +161,11 @@ pub fn account_scan<'r, A: Allocator, N: Naming, B: Allocator + Copy>(
     ensures members { IfOk result (λ scan. (t : ℕ) → is_among t scan.left ≡ account_filter_at manifest.now filter.now t) }
     ensures refusal { IfErr result (λ refusal. refusal ≡ Refusal.NoMemory) }
 {
-    if asks_no_field(filter) {
-        return sides(alloc, manifest, direction, filter);
-    }
-    let both = match sides(alloc, manifest, direction, filter) {
-        Ok(both) => both,
-        Err(refusal) => return Err(refusal),
-    };
-    match narrowed(
-        alloc,
-        manifest,
-        direction,
-        Some(both),
-        &field_conditions(filter),
-    ) {
-        Ok(Some(scan)) => Ok(scan),
-        Ok(None) => unreachable!(),
-        Err(refusal) => Err(refusal),
+    let both = sides(alloc, manifest, direction, filter)?;
+    let fields = field_conditions(filter);
+    let left = narrowed(alloc, manifest, direction, Some(both), &fields)?;
+    match left {
+        Some(scan) => Ok(scan),
+        None => unreachable!(),
     }
 }

@@ -22,7 +22,11 @@ pub fn seek_first<P: Leaf, B: Allocator>(scan: &mut Scan<P, B>, window: &Window)
     ensures in_order { IsInOrder scan.old.direction scan.old.left }
 {
     match scan.direction() {
-        Direction::Rising => scan.seek(window.low),
+        Direction::Rising => {
+            if window.low != 0 {
+                scan.seek(window.low);
+            }
+        }
         Direction::Falling => {
             if window.high != 0 {
                 scan.seek(window.high);
@@ -67,23 +71,23 @@ pub fn read_part<P: Leaf, B: Allocator>(
 ///
 /// It seeks the first bound and reads on in parts, none of them longer than what is still asked for, until one has the last
 /// timestamp in the window. `NoMemory` is the only refusal.
-pub fn timestamps_within<P: Leaf, B: Allocator>(
+pub fn timestamps_within<P: Leaf + Drop, B: Allocator>(
     alloc: B,
-    scan: &mut Scan<P, B>,
+    mut scan: Scan<P, B>,
     window: &Window,
 ) -> Result<Vec<u64, B>, Refusal>
-    ensures ok { IfOk result (λ timestamps. timestamps.items ≡ first_within window.now scan.old.left) }
-    ensures in_order { IfOk result (λ timestamps. IsInOrder scan.old.direction scan.old.left) }
+    ensures ok { IfOk result (λ timestamps. timestamps.items ≡ first_within window.now scan.left) }
+    ensures in_order { IfOk result (λ timestamps. IsInOrder scan.direction scan.left) }
     ensures refusal { IfErr result (λ refusal. refusal ≡ Refusal.NoMemory) }
 {
-    seek_first(scan, window);
+    seek_first(&mut scan, window);
     let mut part = [0; PART];
-    let mut count = read_part(scan, window, window.most, &mut part);
+    let mut count = read_part(&mut scan, window, window.most, &mut part);
     let room = if count < PART { count } else { window.most };
     let mut timestamps = Vec::with_capacity(alloc, room)?;
     timestamps.extend_from_slice(&part[..count])?;
     while count == PART {
-        count = read_part(scan, window, window.most - timestamps.len(), &mut part);
+        count = read_part(&mut scan, window, window.most - timestamps.len(), &mut part);
         timestamps.extend_from_slice(&part[..count])?;
     }
     Ok(timestamps)

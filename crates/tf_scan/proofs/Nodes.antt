@@ -1,5 +1,5 @@
 -- Parts of scans are in order.
-use Rattle.std.proofs.Common.{◌≡◌, ◌<◌, ◌+◌, arith, length, Some, None, true, ℕ, List, [], ◌∷◌, sym, ◌∙◌, ap, subst, drop}
+use Rattle.std.proofs.Common.{◌≡◌, ◌<◌, ◌+◌, arith, length, Some, None, true, ℕ, List, [], ◌∷◌, sym, ◌∙◌, ap, subst, drop, Box}
 use Rattle.std.specs.Prelude.{slice_get}
 use Rattle.tf_scan.specs.declared.direction.Direction.{Direction}
 use Rattle.tf_scan.specs.declared.head.Head.{Head}
@@ -89,5 +89,5 @@ module _ (d : Direction) (t : ℕ) (l r p q peeked_p peeked_q new : Part) (left 
       rw (seeks, same_p) (omega arith)
 
 -- of a leaf that isn't read yet its own timestamps are left
-pub leaf-left : {P A : Type 0} (left : P → List ℕ) (d : Direction) (head : Head) (kind : Kind P A) (p : P) (part : Part) → head ≡ Unread → kind ≡ Leaf p → record { direction = d; left = with_head head (left_behind left d kind); height = height_of kind } ≡ part → left p ≡ part.left
+pub leaf-left : {P A : Type 0} (left : P → List ℕ) (d : Direction) (head : Head) (kind : Kind P A) (p : Box P A) (part : Part) → head ≡ Unread → kind ≡ Leaf p → record { direction = d; left = with_head head (left_behind left d kind); height = height_of kind } ≡ part → left p.value ≡ part.left
 leaf-left left d head kind p part h k e = sym (ap (left_behind left d) k) ∙ sym (ap (λ x. with_head x (left_behind left d kind)) h) ∙ ap (λ (q : Part). q.left) e

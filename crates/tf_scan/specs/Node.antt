@@ -20,7 +20,7 @@ join_of Intersection d ts us = intersection_of ts us
 
 -- what is left behind the head; `left` tells it of a leaf
 abbrev pub left_behind : {P A : Type 0} → (P → List ℕ) → Direction → Kind P A → List ℕ
-left_behind left d (Leaf p) = left p
+left_behind left d (Leaf p) = left p.value
 left_behind left d (Join o a b) = join_of o d a.value.left b.value.left
 
 -- what is left with the head in front of it: where a part was found at its end, nothing is
@@ -47,7 +47,7 @@ pub record KeepsPart (old new : Part) : Type 0 where
 
 -- a leaf has the direction of its part, and what a join is made of has it too
 abbrev pub IsKind : {P A : Type 0} → (P → Direction) → (P → List ℕ) → Direction → Kind P A → Type 0
-IsKind direction left d (Leaf p) = (direction p ≡ d) × IsInOrder d (left p)
+IsKind direction left d (Leaf p) = (direction p.value ≡ d) × IsInOrder d (left p.value)
 IsKind direction left d (Join o a b) = IsPartOf d a.value × IsPartOf d b.value
 
 -- the head comes before all that is left behind it

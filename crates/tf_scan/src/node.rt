@@ -21,11 +21,11 @@ pub(crate) struct Node<P: Leaf, A: Allocator> {
     kind: Kind<P, A>,
 }
 
-/// What a part reads from.
+/// What a part reads from. A leaf may be large, and a scan is moved into others, so it lies in a box.
 #[cycle(part)]
 #[derive(Drop)]
 enum Kind<P: Leaf, A: Allocator> {
-    Leaf(P),
+    Leaf(Box<P, A>),
     Join(Operation, Box<Node<P, A>, A>, Box<Node<P, A>, A>),
 }
 
@@ -50,9 +50,9 @@ impl<P: Leaf, A: Allocator> Model for Node<P, A> {
 impl<P: Leaf, A: Allocator> Node<P, A> {
     /// A leaf, of which nothing is read yet.
     #[inline(always)]
-    pub(crate) fn leaf(leaf: P) -> Self
-        ensures direction { result.direction ≡ P.direction leaf }
-        ensures left { result.left ≡ P.left leaf }
+    pub(crate) fn leaf(leaf: Box<P, A>) -> Self
+        ensures direction { result.direction ≡ P.direction leaf.value }
+        ensures left { result.left ≡ P.left leaf.value }
         ensures in_order { IsInOrder result.direction result.left }
     {
         let direction = leaf.direction();

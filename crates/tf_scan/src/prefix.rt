@@ -17,8 +17,9 @@ use tf_manifest::{Naming, RowValue, Tables};
 /// the key of the value and t.
 ///
 /// A contract sees it as its direction and the timestamps that are still to come. For each of the tables, at most 64, it
-/// has a place in itself, so it takes no memory and has some 2,100 bytes. A table is searched only once its span of
-/// timestamps begins at the nearest one: of tables that follow each other in time, a few timestamps search one or two.
+/// has a place in itself, so it takes no memory and has some 2,100 bytes; a scan keeps it in a box. A table is searched only
+/// once its span of timestamps begins at the nearest one: of tables that follow each other in time, a few timestamps search
+/// one or two.
 #[derive(Drop)]
 pub struct Prefix<'r, V, A: Allocator> {
     direction: Direction,

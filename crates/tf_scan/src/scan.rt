@@ -36,15 +36,19 @@ impl<P: Leaf, A: Allocator> Model for Scan<P, A> {
 }
 
 impl<P: Leaf, A: Allocator> Scan<P, A> {
-    /// The timestamps of a leaf. It takes no memory.
+    /// The timestamps of a leaf, or [`Refusal::NoMemory`], where the memory for a box on `alloc` was refused.
     #[inline(always)]
-    pub fn leaf(leaf: P) -> Self
-        ensures direction { result.direction ≡ P.direction leaf }
-        ensures left { result.left ≡ P.left leaf }
+    pub fn leaf(alloc: A, leaf: P) -> Result<Self, Refusal>
+    where
+        P: Drop,
+        ensures direction { IfOk result (λ scan. scan.direction ≡ P.direction leaf) }
+        ensures left { IfOk result (λ scan. scan.left ≡ P.left leaf) }
+        ensures err { IfErr result (λ refusal. refusal ≡ NoMemory) }
     {
-        Scan {
-            root: Node::leaf(Buffered::new(leaf)),
-        }
+        let leaf = Box::new(alloc, Buffered::new(leaf))?;
+        Ok(Scan {
+            root: Node::leaf(leaf),
+        })
     }
 
     /// The timestamps of both scans, each once, or [`Refusal::NoMemory`], where the memory for two boxes on `alloc` was

@@ -53,11 +53,12 @@ fn list_of<A: Allocator>(
 
 /// A scan of the timestamps in a list.
 fn scan_of<'a, A: Allocator>(
+    alloc: A,
     direction: Direction,
     list: &'a [u64],
 ) -> Result<Scan<PostingList<'a>, A>, Fail>
     ensures { IfOk result (λ scan. scan.direction ≡ direction) }
 {
     let leaf = PostingList::new(direction, list).ok_or("out of order")?;
-    Ok(Scan::leaf(leaf))
+    Ok(Scan::leaf(alloc, leaf)?)
 }

@@ -72,8 +72,8 @@ fn assert_join(
     direction: Direction,
     seek: Seek,
 ) -> Result<(), Fail> {
-    let left = scan_of(direction, lists.0)?;
-    let right = scan_of(direction, lists.1)?;
+    let left = scan_of(rt.alloc(), direction, lists.0)?;
+    let right = scan_of(rt.alloc(), direction, lists.1)?;
     let mut scan = match joined {
         Joined::Union => Scan::union(rt.alloc(), left, right)?,
         Joined::Intersection => Scan::intersection(rt.alloc(), left, right)?,
@@ -193,9 +193,9 @@ fn assert_join_of_join(
     threes: &[u64],
     fives: &[u64],
 ) -> Result<(), Fail> {
-    let two = scan_of(direction, twos)?;
-    let three = scan_of(direction, threes)?;
-    let five = scan_of(direction, fives)?;
+    let two = scan_of(rt.alloc(), direction, twos)?;
+    let three = scan_of(rt.alloc(), direction, threes)?;
+    let five = scan_of(rt.alloc(), direction, fives)?;
     let both = Scan::intersection(rt.alloc(), two, three)?;
     let mut scan = Scan::union(rt.alloc(), both, five)?;
     let six = Multiples { of: 6, count: 500 };

@@ -165,8 +165,10 @@ fn assert_join<N: Naming>(
     direction: Direction,
     seek: Seek,
 ) -> Result<(), Fail> {
-    let left = Scan::leaf(Prefix::new(tables, value_of(lists.0), direction));
-    let right = Scan::leaf(Prefix::new(tables, value_of(lists.1), direction));
+    let left = Prefix::new(tables, value_of(lists.0), direction);
+    let right = Prefix::new(tables, value_of(lists.1), direction);
+    let left = Scan::leaf(rt.alloc(), left)?;
+    let right = Scan::leaf(rt.alloc(), right)?;
     let mut scan = match joined {
         Joined::Union => Scan::union(rt.alloc(), left, right)?,
         Joined::Intersection => Scan::intersection(rt.alloc(), left, right)?,
@@ -304,6 +306,16 @@ fn few_timestamps_search_few_tables(rt: HostRuntime) -> Result<(), Fail> {
     few_timestamps::<Brand>(&rt, &registry)
 }
 
+/// A join of two prefixes, all of it in one heap: a box for each prefix, and two for the join.
+fn join_in<'r, 'h, N: Naming>(
+    heap: &'h LocalHeap,
+    tables: &Tables<'r, (), Global, N>,
+) -> Result<Scan<Prefix<'r, (), Global>, &'h LocalHeap>, Refusal> {
+    let left = Scan::leaf(heap, Prefix::new(tables, 1, Direction::Rising))?;
+    let right = Scan::leaf(heap, Prefix::new(tables, 1, Direction::Rising))?;
+    Scan::intersection(heap, left, right)
+}
+
 /// How many heaps, each greater than the one before, are too small for a join of two prefixes.
 fn count_refusals<N: Naming>(
     rt: &(impl Abort + AllocGlobal + Wait),
@@ -313,10 +325,8 @@ fn count_refusals<N: Naming>(
 {
     let tables = row::<N, _>(rt, rt.alloc(), registry, Layout::InTurn)?;
     for tries in 0..64usize {
-        let heap = LocalHeap::new(rt.alloc(), tries * 512)?;
-        let left = Scan::leaf(Prefix::new(&tables, 1, Direction::Rising));
-        let right = Scan::leaf(Prefix::new(&tables, 1, Direction::Rising));
-        match Scan::intersection(&heap, left, right) {
+        let heap = LocalHeap::new(rt.alloc(), tries * 128)?;
+        match join_in(&heap, &tables) {
             Err(refusal) => {
                 assert_eq!(rt; refusal, Refusal::NoMemory);
                 assert_eq!(rt; heap.used(), 0);
@@ -333,6 +343,7 @@ fn count_refusals<N: Naming>(
 #[test]
 fn each_box_of_a_prefix_may_be_refused(rt: HostRuntime) -> Result<(), Fail> {
     let registry = Registry::new(rt.alloc())?;
-    assert!(rt; count_refusals::<Brand>(&rt, &registry)? > 2);
+    // Each of the prefixes has two kilobytes, and is refused in any smaller heap.
+    assert!(rt; count_refusals::<Brand>(&rt, &registry)? > 32);
     Ok(())
 }

@@ -45,13 +45,14 @@ impl<'a> Leaf for Counted<'a> {
 
 /// A scan of the timestamps in a list, which rise, that counts how often it is read.
 fn counted_scan_of<'a, A: Allocator>(
+    alloc: A,
     list: &'a [u64],
     reads: &'a Cell<u64>,
 ) -> Result<Scan<Counted<'a>, A>, Fail>
     ensures { IfOk result (λ scan. scan.direction ≡ Rising) }
 {
     let list = PostingList::new(Direction::Rising, list).ok_or("out of order")?;
-    Ok(Scan::leaf(Counted { list, reads }))
+    Ok(Scan::leaf(alloc, Counted { list, reads })?)
 }
 
 /// A union reads the first timestamp of each part at its first `next`, and then no further than it needs.
@@ -61,8 +62,8 @@ fn assert_union_reads_late<'a>(
     evens: &'a Cell<u64>,
     tens: &'a Cell<u64>,
 ) -> Result<(), Fail> {
-    let left = counted_scan_of(lists.0, evens)?;
-    let right = counted_scan_of(lists.1, tens)?;
+    let left = counted_scan_of(rt.alloc(), lists.0, evens)?;
+    let right = counted_scan_of(rt.alloc(), lists.1, tens)?;
     let mut scan = Scan::union(rt.alloc(), left, right)?;
     assert_eq!(rt; (evens.get(), tens.get()), (0, 0));
     assert_eq!(rt; scan.next(), Some(0));
@@ -86,8 +87,8 @@ fn assert_intersection_seeks<'a>(
     few: &'a Cell<u64>,
     many: &'a Cell<u64>,
 ) -> Result<(), Fail> {
-    let left = counted_scan_of(lists.0, few)?;
-    let right = counted_scan_of(lists.1, many)?;
+    let left = counted_scan_of(rt.alloc(), lists.0, few)?;
+    let right = counted_scan_of(rt.alloc(), lists.1, many)?;
     let mut scan = Scan::intersection(rt.alloc(), left, right)?;
     assert_eq!(rt; (few.get(), many.get()), (0, 0));
     for place in 0..10u64 {

@@ -1,7 +1,9 @@
 //! Boxes whose memory is refused, each in turn.
 
-use super::{Multiples, list_of, scan_of};
-use crate::{Direction, Scan};
+ghost use Rattle.std.specs.Prelude.{◌≡◌};
+
+use super::{Multiples, list_of};
+use crate::{Direction, PostingList, Scan};
 use linked_list_allocator::LocalHeap;
 use std::process::Abort;
 use std::test::Fail;
@@ -9,6 +11,24 @@ use tf_records::Refusal;
 
 /// Bytes by which a heap grows from one try to the next. No box is smaller.
 const STEP: usize = 16;
+
+/// A join of two lists, all of it in one heap: a box for each list, and two for the join.
+fn join_in<'a>(
+    heap: &'a LocalHeap,
+    is_union: bool,
+    left: PostingList<'a>,
+    right: PostingList<'a>,
+) -> Result<Scan<PostingList<'a>, &'a LocalHeap>, Refusal>
+    requires { right.direction ≡ left.direction }
+{
+    let left = Scan::leaf(heap, left)?;
+    let right = Scan::leaf(heap, right)?;
+    if is_union {
+        Scan::union(heap, left, right)
+    } else {
+        Scan::intersection(heap, left, right)
+    }
+}
 
 /// Joins the first multiples of 2 and of 3 in a heap. It tells whether its memory sufficed.
 fn is_joined<'a>(
@@ -18,14 +38,9 @@ fn is_joined<'a>(
     twos: &'a [u64],
     threes: &'a [u64],
 ) -> Result<bool, Fail> {
-    let left = scan_of(Direction::Rising, twos)?;
-    let right = scan_of(Direction::Rising, threes)?;
-    let answer = if is_union {
-        Scan::union(heap, left, right)
-    } else {
-        Scan::intersection(heap, left, right)
-    };
-    match answer {
+    let left = PostingList::new(Direction::Rising, twos).ok_or("out of order")?;
+    let right = PostingList::new(Direction::Rising, threes).ok_or("out of order")?;
+    match join_in(heap, is_union, left, right) {
         Err(refusal) => {
             assert_eq!(rt; refusal, Refusal::NoMemory);
             assert_eq!(rt; heap.used(), 0);
@@ -47,7 +62,7 @@ fn is_joined<'a>(
 fn count_refusals(rt: &(impl Abort + AllocGlobal), is_union: bool) -> Result<usize, Fail> {
     let twos = list_of(rt.alloc(), Direction::Rising, Multiples { of: 2, count: 4 })?;
     let threes = list_of(rt.alloc(), Direction::Rising, Multiples { of: 3, count: 3 })?;
-    for tries in 0..64usize {
+    for tries in 0..256usize {
         let heap = LocalHeap::new(rt.alloc(), tries * STEP)?;
         if is_joined(rt, &heap, is_union, &twos, &threes)? {
             return Ok(tries);
@@ -58,7 +73,7 @@ fn count_refusals(rt: &(impl Abort + AllocGlobal), is_union: bool) -> Result<usi
 
 #[test]
 fn each_box_may_be_refused(rt: HostRuntime) -> Result<(), Fail> {
-    assert!(rt; count_refusals(&rt, true)? > 4);
-    assert!(rt; count_refusals(&rt, false)? > 4);
+    assert!(rt; count_refusals(&rt, true)? > 8);
+    assert!(rt; count_refusals(&rt, false)? > 8);
     Ok(())
 }

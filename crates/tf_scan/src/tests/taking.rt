@@ -41,12 +41,18 @@ fn assert_list_moves(
     list: &[u64],
     room: &mut [u64],
 ) -> Result<(), Fail> {
-    let mut leaf: Scan<_, Global> = scan_of(direction, list)?;
+    let mut leaf: Scan<_, Global> = scan_of(rt.alloc(), direction, list)?;
     assert_moves(rt, &mut leaf, list, room);
-    let (left, right) = (scan_of(direction, list)?, scan_of(direction, list)?);
+    let (left, right) = (
+        scan_of(rt.alloc(), direction, list)?,
+        scan_of(rt.alloc(), direction, list)?,
+    );
     let mut union = Scan::union(rt.alloc(), left, right)?;
     assert_moves(rt, &mut union, list, room);
-    let (left, right) = (scan_of(direction, list)?, scan_of(direction, list)?);
+    let (left, right) = (
+        scan_of(rt.alloc(), direction, list)?,
+        scan_of(rt.alloc(), direction, list)?,
+    );
     let mut intersection = Scan::intersection(rt.alloc(), left, right)?;
     assert_moves(rt, &mut intersection, list, room);
     Ok(())
@@ -75,7 +81,8 @@ fn assert_prefix_moves<N: Naming>(
     room: &mut [u64],
 ) -> Result<(), Fail> {
     let wanted = list_of(rt.alloc(), direction, list)?;
-    let mut scan: Scan<_, Global> = Scan::leaf(Prefix::new(tables, value_of(list), direction));
+    let prefix = Prefix::new(tables, value_of(list), direction);
+    let mut scan: Scan<_, Global> = Scan::leaf(rt.alloc(), prefix)?;
     assert_moves(rt, &mut scan, &wanted, room);
     Ok(())
 }
@@ -135,7 +142,8 @@ fn assert_tables_move<N: Naming>(
     room: &mut [u64],
 ) -> Result<(), Fail> {
     let wanted = timestamps_from(rt.alloc(), direction, from)?;
-    let mut scan: Scan<_, Global> = Scan::leaf(Prefix::new(tables, 1, direction));
+    let prefix = Prefix::new(tables, 1, direction);
+    let mut scan: Scan<_, Global> = Scan::leaf(rt.alloc(), prefix)?;
     scan.seek(from);
     assert_moves(rt, &mut scan, &wanted, room);
     Ok(())

@@ -1,5 +1,4 @@
-use Rattle.std.proofs.Common.{◌≡◌, Some, map, slice_get, sym, ◌∙◌, ap, arith}
-use Rattle.std.specs.Prelude.{IfSome}
+use Rattle.std.proofs.Common.{◌≡◌, Some, map, slice_get, ◌∙◌, ap, arith}
 use Rattle.tf_manifest.specs.Table.{Shown, Table}
 use Rattle.tf_manifest.specs.Reference.{shown_of}
 use Rattle.tf_manifest.specs.Row.{lists_of}

@@ -33,12 +33,13 @@ Node::seek-returns-in-Unread-clause-kept g t c =
 pub reading::seek_below-returns-in-Leaf-clause-kind : goal.reading::seek_below-returns-in-Leaf-clause-kind
 reading::seek_below-returns-in-Leaf-clause-kind g t c =
     let old = subst (λ k. IsKind g.P.Leaf.direction g.P.Leaf.left c.args.direction k) c.in-Leaf.is c.requires.kind in
-    (c.seek.ensures.direction_kept ∙ old.0, rw c.seek.ensures.others (in_order-filter _ _ _ old.1))
+    let sought = rw c.deref_mut.ensures.value at c.seek.ensures in
+    (sought.direction_kept ∙ old.0, rw sought.others (in_order-filter _ _ _ old.1))
 
 pub reading::seek_below-returns-in-Join-clause-others : goal.reading::seek_below-returns-in-Join-clause-others
 reading::seek_below-returns-in-Join-clause-others g t c =
     let old = subst (λ k. IsKind g.P.Leaf.direction g.P.Leaf.left c.args.direction k) c.in-Join.is c.requires.kind in
-    let l = subst (λ (p : Part). IsPartOf c.args.direction p) (sym c.deref_mut.ensures.value) old.0 in
-    let r = subst (λ (p : Part). IsPartOf c.args.direction p) (sym c.deref_mut-in-Join.ensures.value) old.1 in
-    rw (c.in-Join.is, seek-left _ _ _ _ l c.seek-in-Join.ensures.others, seek-left _ _ _ _ r c.seek-in-Join-2.ensures.others, c.deref_mut.ensures.value, c.deref_mut-in-Join.ensures.value)
+    let l = subst (λ (p : Part). IsPartOf c.args.direction p) (sym c.deref_mut-in-Join.ensures.value) old.0 in
+    let r = subst (λ (p : Part). IsPartOf c.args.direction p) (sym c.deref_mut-in-Join-2.ensures.value) old.1 in
+    rw (c.in-Join.is, seek-left _ _ _ _ l c.seek-in-Join.ensures.others, seek-left _ _ _ _ r c.seek-in-Join-2.ensures.others, c.deref_mut-in-Join.ensures.value, c.deref_mut-in-Join-2.ensures.value)
     (sym (from-join _ _ _ _ _ old.0.in_order old.1.in_order))
