@@ -78,9 +78,9 @@ impl<'r, A: Allocator, N: Naming> Version<'r, A, N> {
     ///
     /// It reads the timestamps of the account's transfers, of those with each field of the user's that is asked for, and of
     /// both sides, side by side, and seeks from one to the next that all can have. It reads them in parts of 256, none longer
-    /// than what is still asked for, so that few open few tables. Memory is taken for two boxes for each of them but the
-    /// first, once for the timestamps (just as many where one part has them all, else as many as the limit), and once for
-    /// just as many rows, into which each record is copied from its table.
+    /// than what is still asked for, so that few open few tables. Memory is taken for a box of two kilobytes for each of them
+    /// and two small boxes for each but the first, once for the timestamps (just as many where one part has them all, else as
+    /// many as the limit), and once for just as many rows, into which each record is copied from its table.
     ///
     /// A code of which there are no fewer timestamps than of the account, by the largest tables of their indexes, isn't read so:
     /// it is tested on the records at the other timestamps, each of which costs one look-up, whether it passes or not, and a
