@@ -54,9 +54,9 @@ SETTLED = (
     "merges it in the writer's thread: such rows could be merged before, by others."
 )
 SEARCHES = (
-    "by answers of both lengths some 2 microseconds of a query come before its first row, half of them for setting scans to zero "
-    "and moving them: each has places for 64 tables in itself, 2 kilobytes. Places in a box would be moved by their address; then a "
-    "scan would take memory that can be refused."
+    "two thirds of a short query's instructions find the first timestamps of the account's two sides, by searches for both ends "
+    "in two or three tables of each, and a fifth make the scans, with a place for each of some 16 tables: places could be made "
+    "as their tables' turn comes."
 )
 NEXT = {name: CHANGES for name, _ in INGEST}
 NEXT |= {name: SETTLED for name in ("pending_post", "pending_void")}
