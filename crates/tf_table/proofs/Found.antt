@@ -78,6 +78,19 @@ module _ {V A : Type 0} {span : Option Span} (least greatest : Key) (ks : List K
       value_at-place key_cmp keys_total key (rows_of ks es) p (k, e) before (omega (arith, length-laid)) (ap (λ (r : Key × Option V). is_eq (key_cmp r.0 key)) there ∙ eq)
       ∙ ap (λ (r : Key × Option V). Some r.1) there
 
+  -- where the key itself stands at the place
+  pub entry_at-there : (key : Key) (p : ℕ) (e : Option V) → p < length ks → key ≡ get_or ks p key → get_or (entries_of (length ks) es) p e ≡ e → entry_at key (rows_of ks es) ≡ Some e
+  entry_at-there key p e l same entry =
+      entry_at-found key p key e
+      (laid_before key p (omega arith) (λ q d at.
+      let d' : Key × Option V = (d, None) in
+      let less = rising_pair (rows_of ks es) q p d' laid.rising (omega arith) (omega (arith, length-laid)) in
+      let here : (get_or (rows_of ks es) p d').0 ≡ key = key_there ks es p d' laid.paired l ∙ get_or_default ks p d key l ∙ sym same in
+      ap (λ k. is_lt (key_cmp k key)) (sym (key_there ks es q d' laid.paired (omega arith)))
+      ∙ ap (λ k. is_lt (key_cmp (get_or (rows_of ks es) q d').0 k)) (sym here)
+      ∙ ap is_lt less))
+      l same (ap is_eq (key_itself key)) entry
+
   pub entry_at-missing : (key : Key) (p : ℕ) (k : Key) → AllBefore key_cmp keys_total key (take p (rows_of ks es)) → p < length ks → k ≡ get_or ks p k → is_lt (key_cmp k key) ≡ false → is_eq (key_cmp k key) ≡ false → entry_at key (rows_of ks es) ≡ None
   entry_at-missing key p k before l same n e =
       let d : Key × Option V = (k, None) in
@@ -150,16 +163,8 @@ module _ {V A : Type 0} {span : Option Span} (least greatest : Key) (ks : List K
 
       pub dense_found : (e : Option V) → get_or (entries_of (length ks) es) (key.timestamp - least.timestamp) e ≡ e → entry_at key (rows_of ks es) ≡ Some e
       dense_found e entry =
-          entry_at-found key (key.timestamp - least.timestamp) key e
-          (laid_before key (key.timestamp - least.timestamp) (omega (arith, dense_within)) (λ q d at.
-          let d' : Key × Option V = (d, None) in
-          let less = rising_pair (rows_of ks es) q (key.timestamp - least.timestamp) d' laid.rising (omega arith) (omega (arith, length-laid, dense_within)) in
-          ap (λ k. is_lt (key_cmp k key)) (sym (key_there ks es q d' laid.paired (omega (arith, dense_within))))
-          ∙ ap (λ k. is_lt (key_cmp (get_or (rows_of ks es) q d').0 k)) (sym (dense_row d'))
-          ∙ ap is_lt less))
-          dense_within
+          entry_at-there key (key.timestamp - least.timestamp) e dense_within
           (sym (dense_row (key, e)) ∙ key_there ks es (key.timestamp - least.timestamp) (key, e) laid.paired dense_within)
-          (ap is_eq (key_itself key))
           entry
 
     pub dated_there : (t : ℕ) → least.timestamp ≤ t → t - least.timestamp < length ks → entry_at (record { value = 0; timestamp = t }) (rows_of ks es) ≡ slice_get (entries_of (length ks) es) (t - least.timestamp)

@@ -37,24 +37,28 @@ impl<V, A: Allocator> Sealed<V, A> {
     pub fn seek(&self, key: &Key) -> Cursor<'_, V, A>
         ensures { result ≡ rows_from key_cmp key.now self.now }
     {
-        let to = self.len();
-        Cursor {
-            table: self,
-            from: self.first_from(0, to, key, self.near(key)),
-            to,
-        }
+        self.rows_from(key, self.near(key))
+    }
+
+    /// The same, by a search that begins at a place, and goes ever further from it.
+    pub fn seek_near(&self, key: &Key, place: usize) -> Cursor<'_, V, A>
+        ensures { result ≡ rows_from key_cmp key.now self.now }
+    {
+        self.rows_from(key, Start::Near(place))
     }
 
     /// The rows up to the greatest key not above `key`: the last of them is the first from the back. It takes no memory.
     pub fn seek_back(&self, key: &Key) -> Cursor<'_, V, A>
         ensures { result ≡ rows_upto key_cmp key.now self.now }
     {
-        let len = self.len();
-        Cursor {
-            table: self,
-            from: 0,
-            to: self.last_upto(0, len, key, self.near(key)),
-        }
+        self.rows_upto(key, self.near(key))
+    }
+
+    /// The same, by a search that begins at a place, and goes ever further from it.
+    pub fn seek_back_near(&self, key: &Key, place: usize) -> Cursor<'_, V, A>
+        ensures { result ≡ rows_upto key_cmp key.now self.now }
+    {
+        self.rows_upto(key, Start::Near(place))
     }
 
     /// The rows whose keys are neither below `from` nor above `to`. It takes no memory.
@@ -64,17 +68,55 @@ impl<V, A: Allocator> Sealed<V, A> {
     pub fn range(&self, from: &Key, to: &Key) -> Cursor<'_, V, A>
         ensures { result ≡ rows_upto key_cmp to.now (rows_from key_cmp from.now self.now) }
     {
+        self.rows_between(from, to, self.near(from))
+    }
+
+    /// The same, by a search for the first of them that begins at a place, and goes ever further from it.
+    pub fn range_near(&self, from: &Key, to: &Key, place: usize) -> Cursor<'_, V, A>
+        ensures { result ≡ rows_upto key_cmp to.now (rows_from key_cmp from.now self.now) }
+    {
+        self.rows_between(from, to, Start::Near(place))
+    }
+}
+
+impl<V, A: Allocator> Sealed<V, A> {
+    /// The rows from the least key not below `key` on, by a search that begins somewhere.
+    fn rows_from(&self, key: &Key, start: Start) -> Cursor<'_, V, A>
+        ensures { result ≡ rows_from key_cmp key.now self.now }
+    {
+        let to = self.len();
+        Cursor {
+            table: self,
+            from: self.first_from(0, to, key, start),
+            to,
+        }
+    }
+
+    /// The rows up to the greatest key not above `key`, by a search that begins somewhere.
+    fn rows_upto(&self, key: &Key, start: Start) -> Cursor<'_, V, A>
+        ensures { result ≡ rows_upto key_cmp key.now self.now }
+    {
         let len = self.len();
-        let first = self.first_from(0, len, from, self.near(from));
+        Cursor {
+            table: self,
+            from: 0,
+            to: self.last_upto(0, len, key, start),
+        }
+    }
+
+    /// The rows whose keys are neither below `from` nor above `to`, by a search for the first that begins somewhere.
+    fn rows_between(&self, from: &Key, to: &Key, start: Start) -> Cursor<'_, V, A>
+        ensures { result ≡ rows_upto key_cmp to.now (rows_from key_cmp from.now self.now) }
+    {
+        let len = self.len();
+        let first = self.first_from(0, len, from, start);
         Cursor {
             table: self,
             from: first,
             to: self.last_upto(first, len, to, Start::Front),
         }
     }
-}
 
-impl<V, A: Allocator> Sealed<V, A> {
     /// Of the rows from one place up to another the first that isn't below `key`.
     #[inline]
     fn first_from(&self, from: usize, to: usize, key: &Key, start: Start) -> usize

@@ -116,7 +116,7 @@ fn count_passed(ranks: &[u64], rank: u64) -> usize {
 /// How many of the keys are below `key`. Each is compared, without a branch, so that no one waits for another to come from
 /// memory.
 #[inline]
-fn count_less(keys: &[Key], key: &Key) -> usize {
+pub(crate) fn count_less(keys: &[Key], key: &Key) -> usize {
     let mut count = 0usize;
     for other in keys {
         count = count.saturating_add(usize::from(other.is_below(key)));

@@ -9,8 +9,9 @@ ghost use Rattle.tf_table.specs.Merge.{seen};
 ghost use Rattle.tf_table.specs.Span.{HasSpan, timestamps};
 
 use crate::entries::Entries;
-use crate::fences::{Scale, near};
+use crate::fences::near;
 use crate::hints::Hints;
+use crate::probe::Probe;
 use crate::search::{Start, are_dense, count_below, count_upto};
 use crate::{Key, Span};
 use std::alloc::Allocator;
@@ -105,26 +106,55 @@ impl<V, A: Allocator> Sealed<V, A> {
     pub fn find(&self, key: &Key) -> Option<Option<&V>>
         ensures { option_map option_copied result ≡ entry_at key.now self.now }
     {
+        let entry = self.entry(key)?;
+        Some(entry.as_ref())
+    }
+
+    /// The same as `find`, as it is stored: no entry is read, so that the entries of several keys come from far memory at once when
+    /// they are.
+    #[inline]
+    pub fn entry(&self, key: &Key) -> Option<&Option<V>>
+        ensures { option_copied result ≡ entry_at key.now self.now }
+    {
         if !self.may_have(key) {
             return None;
         }
         self.search(key)
     }
 
-    /// The same, by the least and the greatest key, and then by a search. It isn't inlined, so that a look-up that ends before it
-    /// saves no registers.
+    /// The same as `entry`, where the key is expected at a place, which may be any: there it takes one comparison. Else a search goes
+    /// ever further from it, and takes a number of comparisons that grows with the logarithm of the rows passed over.
+    #[inline]
+    pub fn entry_near(&self, key: &Key, place: usize) -> Option<&Option<V>>
+        ensures { option_copied result ≡ entry_at key.now self.now }
+    {
+        if place < self.keys.len() && key.cmp(&self.keys[place]).is_eq() {
+            return Some(self.entries.entry(place));
+        }
+        self.entry_from(key, Start::Near(place))
+    }
+
+    /// A search for the place at which `entry_near` is to look for a key, which goes on step by step.
+    #[inline]
+    pub fn probe(&self, key: &Key) -> Probe<'_> {
+        let rank = self.hints.scale().rank(key);
+        Probe::new(&self.keys, self.hints.fences(), *key, rank)
+    }
+
+    /// The same as `entry`, by the least and the greatest key, and then by a search. It isn't inlined, so that a look-up that ends
+    /// before it saves no registers.
     #[inline(never)]
-    fn search(&self, key: &Key) -> Option<Option<&V>>
-        ensures { option_map option_copied result ≡ entry_at key.now self.now }
+    fn search(&self, key: &Key) -> Option<&Option<V>>
+        ensures { option_copied result ≡ entry_at key.now self.now }
     {
         if key.is_below(&self.least) || self.greatest.is_below(key) {
             return None;
         }
         if are_dense(self.keys.len(), &self.least, &self.greatest) {
             let place = key.timestamp.saturating_sub(self.least.timestamp) as usize;
-            return Some(self.entries.at(place));
+            return Some(self.entries.entry(place));
         }
-        self.entry_by(key, self.first_look(key))
+        self.entry_from(key, self.first_look(key))
     }
 
     /// The timestamp of the first row, and the entries, where the rows have no value, no timestamp is missing between them and
@@ -161,17 +191,16 @@ impl<V, A: Allocator> Sealed<V, A> {
         if fences.is_empty() {
             return Start::Middle;
         }
-        let scale = Scale::of(&self.least, &self.greatest, self.span);
-        near(fences, &scale, &self.keys, key)
+        near(fences, self.hints.scale(), &self.keys, key)
     }
 
     /// The entry of a key, by a search that begins somewhere.
-    fn entry_by(&self, key: &Key, start: Start) -> Option<Option<&V>>
-        ensures { option_map option_copied result ≡ entry_at key.now self.now }
+    fn entry_from(&self, key: &Key, start: Start) -> Option<&Option<V>>
+        ensures { option_copied result ≡ entry_at key.now self.now }
     {
         let place = count_below(&self.keys, key, start);
         if place < self.keys.len() && self.keys[place].cmp(key).is_eq() {
-            return Some(self.entries.at(place));
+            return Some(self.entries.entry(place));
         }
         None
     }

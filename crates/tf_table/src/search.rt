@@ -37,6 +37,7 @@ fn next_look(low: usize, high: usize, len: usize, start: Start) -> usize
 }
 
 /// How many keys lie before `key`: a place with a lesser key right before it and no lesser key at it.
+#[inline]
 pub(crate) fn count_below(keys: &[Key], key: &Key, start: Start) -> usize
     ensures within { result ≤ length keys.now }
     ensures before { (place : ℕ) (d : Key) → place + 1 ≡ result → is_lt (key_cmp (slice_index_or keys.now place d) key.now) ≡ true }
@@ -73,6 +74,7 @@ pub(crate) fn are_dense(len: usize, least: &Key, greatest: &Key) -> bool
 }
 
 /// How many keys are not above `key`: a place with no greater key right before it and a greater one at it.
+#[inline]
 pub(crate) fn count_upto(keys: &[Key], key: &Key, start: Start) -> usize
     ensures within { result ≤ length keys.now }
     ensures before { (place : ℕ) (d : Key) → place + 1 ≡ result → is_gt (key_cmp (slice_index_or keys.now place d) key.now) ≡ false }

@@ -1,8 +1,5 @@
-use Rattle.std.proofs.Common.{◌≡◌, ◌∙◌, ◌+◌, arith, ap, length, List, Option, sym, subst}
-use Rattle.std.specs.Prelude.{slice_get}
-use Rattle.tf_table.specs.declared.key.Key.{Key}
-use Rattle.tf_table.specs.declared.entries.Entries.TheVariants.{Each}
-use Rattle.tf_table.specs.Content.{AreDated, entry_at}
+use Rattle.std.proofs.Common.{◌≡◌, ◌∙◌, arith, ap, length, sym, subst}
+use Rattle.tf_table.specs.Content.{AreDated}
 use Rattle.tf_table.specs.Entries.{entries_of}
 use Rattle.tf_table.specs.Rows.{rows_of}
 use Rattle.tf_table.proofs.Found.{dated_there}

@@ -1,5 +1,4 @@
 use Rattle.std.proofs.Common.{◌≡◌, ◌-◌, length, get_or, None, arith, ap, sym, ◌∙◌, subst}
-use Rattle.std.specs.Option.{option_copied}
 use Rattle.tf_table.specs.Entries.{entries_of}
 use Rattle.tf_table.specs.Rows.{rows_of}
 use Rattle.tf_table.specs.Content.{entry_at}
@@ -25,7 +24,7 @@ returns-then-are_dense g c =
     let upto = sym c.is_below-else-is_below.ensures ∙ c.if-is_below-2.false in
     let place : c.saturating_sub-place.result ≡ c.args.key.now.timestamp - t.least.timestamp = c.saturating_sub-place.ensures in
     let within = dense_within t.least t.greatest keys t.entries c.self.invariant.laid (omega (arith, dense.0)) dense.1 (omega (arith, dense.2)) c.args.key.now from upto in
-    let entry = c.at.ensures (length keys) (option_copied c.at.result) (omega arith) in
-    sym (dense_found t.least t.greatest keys t.entries c.self.invariant.laid (omega (arith, dense.0)) dense.1 (omega (arith, dense.2)) c.args.key.now from upto (option_copied c.at.result)
-    (subst (λ p. get_or (entries_of (length keys) t.entries) p (option_copied c.at.result) ≡ option_copied c.at.result) place entry))
+    let entry = c.entry.ensures (length keys) c.entry.result.now (omega arith) in
+    sym (dense_found t.least t.greatest keys t.entries c.self.invariant.laid (omega (arith, dense.0)) dense.1 (omega (arith, dense.2)) c.args.key.now from upto c.entry.result.now
+    (subst (λ p. get_or (entries_of (length keys) t.entries) p c.entry.result.now ≡ c.entry.result.now) place entry))
     ∙ ap (entry_at c.args.key.now) c.self.view_is

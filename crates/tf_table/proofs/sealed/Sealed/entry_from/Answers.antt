@@ -1,12 +1,11 @@
 use Rattle.std.proofs.Common.{◌≡◌, length, get_or, None, true, false, arith, ap, sym, ◌∙◌, subst}
-use Rattle.std.specs.Option.{option_copied}
 use Rattle.std.specs.Ordering.{is_lt, is_eq}
 use Rattle.tf_table.specs.Key.{key_cmp}
 use Rattle.tf_table.specs.Rows.{rows_of}
 use Rattle.tf_table.specs.Content.{entry_at}
 use Rattle.tf_table.proofs.Found.{laid_before, entry_at-found, entry_at-missing, entry_at-end}
-use Rattle.tf_table.proofs.sealed.Sealed.entry_by.Goals as goal
-use Rattle.tf_table.proofs.sealed.Sealed.entry_by.Goals.{else-place-len-via-then-place-len+else-is_eq, else-place-len-via-else-place-len}
+use Rattle.tf_table.proofs.sealed.Sealed.entry_from.Goals as goal
+use Rattle.tf_table.proofs.sealed.Sealed.entry_from.Goals.{else-place-len-via-then-place-len+else-is_eq, else-place-len-via-else-place-len}
 
 pub returns-then-is_eq : goal.returns-then-is_eq
 returns-then-is_eq g c =
@@ -14,8 +13,8 @@ returns-then-is_eq g c =
     let keys = t.keys.items in
     let p = c.count_below-place.result in
     let before = laid_before t.least t.greatest keys t.entries c.self.invariant.laid c.args.key.now p (omega arith) (λ q d e. subst (λ ks. is_lt (key_cmp (get_or ks q d) c.args.key.now) ≡ true) c.deref.ensures.value (c.count_below-place.ensures.before q d e)) in
-    sym (entry_at-found t.least t.greatest keys t.entries c.self.invariant.laid c.args.key.now p c.index.result.now (option_copied c.at.result) before (omega arith) c.index.ensures
-    (sym (ap is_eq c.cmp.ensures) ∙ sym c.is_eq.ensures ∙ c.if-is_eq.true) (c.at.ensures (length keys) _ (omega arith)))
+    sym (entry_at-found t.least t.greatest keys t.entries c.self.invariant.laid c.args.key.now p c.index.result.now c.entry.result.now before (omega arith) c.index.ensures
+    (sym (ap is_eq c.cmp.ensures) ∙ sym c.is_eq.ensures ∙ c.if-is_eq.true) (c.entry.ensures (length keys) _ (omega arith)))
     ∙ ap (entry_at c.args.key.now) c.self.view_is
 
 pub returns : goal.returns
