@@ -113,7 +113,7 @@ impl<V, A: Allocator> Sealed<V, A> {
         Cursor {
             table: self,
             from: first,
-            to: self.last_upto(first, len, to, Start::Front),
+            to: self.last_upto(first, len, to, self.near_behind(to, first)),
         }
     }
 

@@ -10,6 +10,9 @@ pub(crate) const KEYS_A_FENCE: usize = 8;
 /// Fewer keys have no fences: they fit into the nearest cache themselves.
 const FEWEST: usize = 1024;
 
+/// Of so many fences the first lie in one or two lines of a cache.
+const FEWEST_FENCES: usize = 8;
+
 /// How many fences so many keys have: one for each eight, or none if they are fewer than 1,024.
 #[inline]
 pub(crate) fn fences_of(keys: usize) -> usize
@@ -32,9 +35,42 @@ pub(crate) fn fences_of(keys: usize) -> usize
 #[inline]
 pub(crate) fn near(fences: &[u64], scale: &Scale, keys: &[Key], key: &Key) -> Start {
     let passed = count_passed(fences, scale.rank(key));
-    let from = passed.saturating_mul(KEYS_A_FENCE).min(keys.len());
+    Start::Near(place_behind(passed, keys, key))
+}
+
+/// The same, of a search among the keys from a place on, whose place is counted from there. It takes a number of comparisons
+/// that grows with the logarithm of the fences passed over.
+#[inline]
+pub(crate) fn near_behind(
+    fences: &[u64],
+    scale: &Scale,
+    keys: &[Key],
+    key: &Key,
+    first: usize,
+) -> Start {
+    let rank = scale.rank(key);
+    let skipped = (first / KEYS_A_FENCE).min(fences.len());
+    let passed = count_passed(front(&fences[skipped..], rank), rank);
+    let place = place_behind(skipped.saturating_add(passed), keys, key);
+    Start::Near(place.saturating_sub(first))
+}
+
+/// The place of a key among those behind so many fences.
+#[inline]
+pub(crate) fn place_behind(fences: usize, keys: &[Key], key: &Key) -> usize {
+    let from = fences.saturating_mul(KEYS_A_FENCE).min(keys.len());
     let to = from.saturating_add(KEYS_A_FENCE - 1).min(keys.len());
-    Start::Near(from.saturating_add(count_less(part(keys, from, to), key)))
+    from.saturating_add(count_less(part(keys, from, to), key))
+}
+
+/// So many of the first ranks, which rise, that all that are less than `rank` are among them.
+#[inline]
+fn front(ranks: &[u64], rank: u64) -> &[u64] {
+    let mut many = FEWEST_FENCES;
+    while many < ranks.len() && ranks[many] < rank {
+        many = many.saturating_mul(2);
+    }
+    &ranks[..many.min(ranks.len())]
 }
 
 /// How the keys of a table are ranked: the greater a key, the greater its rank, or the same.
@@ -116,7 +152,7 @@ fn count_passed(ranks: &[u64], rank: u64) -> usize {
 /// How many of the keys are below `key`. Each is compared, without a branch, so that no one waits for another to come from
 /// memory.
 #[inline]
-pub(crate) fn count_less(keys: &[Key], key: &Key) -> usize {
+fn count_less(keys: &[Key], key: &Key) -> usize {
     let mut count = 0usize;
     for other in keys {
         count = count.saturating_add(usize::from(other.is_below(key)));

@@ -1,8 +1,7 @@
 //! Searches that take turns.
 
 use crate::Key;
-use crate::fences::{KEYS_A_FENCE, count_less};
-use crate::search::part;
+use crate::fences::place_behind;
 
 /// A search by the fences of a table for the place at which a key mostly stands, if the table has it.
 ///
@@ -76,13 +75,9 @@ impl<'a> Probe<'a> {
     /// Goes from the last fence to the place among the keys behind it.
     #[inline]
     fn end(&mut self) {
-        let passed = self
-            .low
-            .saturating_add(usize::from(self.is_passed(self.low)));
-        let from = passed.saturating_mul(KEYS_A_FENCE).min(self.keys.len());
-        let to = from.saturating_add(KEYS_A_FENCE - 1).min(self.keys.len());
-        let less = count_less(part(self.keys, from, to), &self.key);
-        self.low = from.saturating_add(less);
+        let is_last_passed = self.is_passed(self.low);
+        let passed = self.low.saturating_add(usize::from(is_last_passed));
+        self.low = place_behind(passed, self.keys, &self.key);
     }
 }
 

@@ -9,7 +9,7 @@ ghost use Rattle.tf_table.specs.Merge.{seen};
 ghost use Rattle.tf_table.specs.Span.{HasSpan, timestamps};
 
 use crate::entries::Entries;
-use crate::fences::near;
+use crate::fences::{near, near_behind};
 use crate::hints::Hints;
 use crate::probe::Probe;
 use crate::search::{Start, are_dense, count_below, count_upto};
@@ -192,6 +192,16 @@ impl<V, A: Allocator> Sealed<V, A> {
             return Start::Middle;
         }
         near(fences, self.hints.scale(), &self.keys, key)
+    }
+
+    /// Where a search for a key among the keys from a place on begins, by the fences.
+    #[inline]
+    pub(crate) fn near_behind(&self, key: &Key, first: usize) -> Start {
+        let fences = self.hints.fences();
+        if fences.is_empty() {
+            return Start::Front;
+        }
+        near_behind(fences, self.hints.scale(), &self.keys, key, first)
     }
 
     /// The entry of a key, by a search that begins somewhere.
