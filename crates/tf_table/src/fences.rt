@@ -87,6 +87,7 @@ pub(crate) struct Scale {
 
 impl Scale {
     /// The scale of keys from `least` to `greatest`, whose timestamps lie within the span.
+    #[inline]
     pub(crate) fn of(least: &Key, greatest: &Key, span: Option<Span>) -> Scale {
         let (earliest, latest) = match span {
             Some(span) => (span.earliest, span.latest),

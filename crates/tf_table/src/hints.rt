@@ -7,14 +7,12 @@ use crate::fences::{KEYS_A_FENCE, Scale, fences_of};
 use crate::filter::{filter_words_of, may_hold, put};
 use std::alloc::{AllocError, Allocator};
 
-/// The words of a filter, and behind them the fences, in one run, and how the fences rank keys. Without words of a filter it
-/// says nothing of values, and without fences nothing of places.
+/// The words of a filter, and behind them the fences, in one run. Without words of a filter it says nothing of values, and
+/// without fences nothing of places.
 #[derive(Drop)]
 pub(crate) struct Hints<A: Allocator> {
     words: Vec<u64, A>,
     filter_words: usize,
-    /// How the keys are ranked.
-    scale: Scale,
 }
 
 impl<A: Allocator> Hints<A> {
@@ -43,7 +41,6 @@ impl<A: Allocator> Hints<A> {
         Ok(Hints {
             words,
             filter_words,
-            scale: *scale,
         })
     }
 
@@ -54,12 +51,6 @@ impl<A: Allocator> Hints<A> {
         ensures unheld { result ≡ true → Holds self.now.words.items self.now.filter_words value }
     {
         self.filter_words == 0 || may_hold(&self.words, self.filter_words, value)
-    }
-
-    /// How the keys are ranked.
-    #[inline]
-    pub(crate) fn scale(&self) -> &Scale {
-        &self.scale
     }
 
     /// The fences.

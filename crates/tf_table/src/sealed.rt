@@ -9,7 +9,7 @@ ghost use Rattle.tf_table.specs.Merge.{seen};
 ghost use Rattle.tf_table.specs.Span.{HasSpan, timestamps};
 
 use crate::entries::Entries;
-use crate::fences::{near, near_behind};
+use crate::fences::{Scale, near, near_behind};
 use crate::hints::Hints;
 use crate::probe::Probe;
 use crate::search::{Start, are_dense, count_below, count_upto};
@@ -137,7 +137,7 @@ impl<V, A: Allocator> Sealed<V, A> {
     /// A search for the place at which `entry_near` is to look for a key, which goes on step by step.
     #[inline]
     pub fn probe(&self, key: &Key) -> Probe<'_> {
-        let rank = self.hints.scale().rank(key);
+        let rank = self.scale().rank(key);
         Probe::new(&self.keys, self.hints.fences(), *key, rank)
     }
 
@@ -184,6 +184,12 @@ impl<V, A: Allocator> Sealed<V, A> {
         }
     }
 
+    /// How the fences rank keys.
+    #[inline]
+    fn scale(&self) -> Scale {
+        Scale::of(&self.least, &self.greatest, self.span)
+    }
+
     /// Where a search for a key begins, by the fences.
     #[inline]
     pub(crate) fn near(&self, key: &Key) -> Start {
@@ -191,7 +197,7 @@ impl<V, A: Allocator> Sealed<V, A> {
         if fences.is_empty() {
             return Start::Middle;
         }
-        near(fences, self.hints.scale(), &self.keys, key)
+        near(fences, &self.scale(), &self.keys, key)
     }
 
     /// Where a search for a key among the keys from a place on begins, by the fences.
@@ -201,7 +207,7 @@ impl<V, A: Allocator> Sealed<V, A> {
         if fences.is_empty() {
             return Start::Front;
         }
-        near_behind(fences, self.hints.scale(), &self.keys, key, first)
+        near_behind(fences, &self.scale(), &self.keys, key, first)
     }
 
     /// The entry of a key, by a search that begins somewhere.
