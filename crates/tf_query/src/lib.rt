@@ -6,6 +6,7 @@
 //! code that is asked for beside something that leads to fewer is left out there, and tested on the records.
 #![tactic(auto)]
 
+mod at_once;
 mod balances;
 mod condition;
 mod filters;

@@ -1,18 +1,17 @@
 //! Look-ups of ids, read from a manifest that shows a journal.
 ghost use Rattle.std.specs.Prelude.{◌≡◌, ◌≤◌, List, Err, Ok, filter_map, length, map, take, vec_capacity, IfErr, IfOk, MatchOption};
-ghost use Rattle.std.specs.Option.{option_and_then, option_copied};
+ghost use Rattle.std.specs.Option.{option_and_then, option_copied, option_flatten};
 ghost use Rattle.tf_journal.specs.declared.entry.Entry.{Entry};
 ghost use Rattle.tf_journal.specs.Answer.{lookup_refusal, looked_up_accounts, looked_up_transfers};
 ghost use Rattle.tf_journal.specs.Lawful.{IsSound};
 ghost use Rattle.tf_manifest.specs.View.{ShowsJournal};
-ghost use Rattle.tf_query.specs.Reads.{account_in, account_stamp_in, shown_in, transfer_in, transfer_stamp_in};
+ghost use Rattle.tf_query.specs.Reads.{account_in, account_stamp_in, shown_in, stored_record, stored_stamp, transfer_in, transfer_stamp_in};
 
-use crate::reads::{
-    AHEAD, account_at, key_of, push_found, push_records, stored_account_at, transfer_at,
-};
+use crate::at_once::{entries_at_stamps, entries_of_values};
+use crate::reads::{AHEAD, account_at, key_of, push_found, push_records, stored_account_at};
 use crate::rows_find_ids;
 use std::alloc::Allocator;
-use tf_manifest::{IdStamp, Manifest, Naming};
+use tf_manifest::{IdStamp, Manifest, Naming, Stored};
 use tf_records::{Account, BATCH_MAX, Refusal, Transfer};
 
 /// The timestamp of the account with this id.
@@ -21,16 +20,6 @@ fn account_stamp<A: Allocator, N: Naming>(manifest: &Manifest<'_, A, N>, id: u12
 {
     let timestamp = manifest.stamps.row(0).find(&key_of(id, 0))?;
     Some(*timestamp)
-}
-
-/// The timestamp of the transfer with this id.
-fn transfer_stamp<A: Allocator, N: Naming>(manifest: &Manifest<'_, A, N>, id: u128) -> Option<u64>
-    ensures { result ≡ transfer_stamp_in manifest.now id }
-{
-    match manifest.ids.row(0).find(&key_of(id, 0)) {
-        Some(IdStamp::Stored(timestamp)) => Some(*timestamp),
-        _ => None,
-    }
 }
 
 /// The account with this id, as it was stored, where its table has it: two look-ups in rows.
@@ -52,6 +41,17 @@ fn account<A: Allocator, N: Naming>(manifest: &Manifest<'_, A, N>, id: u128) -> 
     account_at(manifest, timestamp)
 }
 
+/// The timestamp in an entry of an id, if a transfer is stored with the id.
+#[inline]
+fn stamp_of(found: Option<&Option<IdStamp>>) -> Option<u64>
+    ensures { result ≡ option_and_then stored_stamp (option_flatten (option_copied found.entry)) }
+{
+    match found {
+        Some(Some(IdStamp::Stored(timestamp))) => Some(*timestamp),
+        _ => None,
+    }
+}
+
 /// The timestamps of the transfers with these ids, each in the place of its id.
 fn transfer_stamps<A: Allocator, N: Naming>(
     manifest: &Manifest<'_, A, N>,
@@ -60,25 +60,29 @@ fn transfer_stamps<A: Allocator, N: Naming>(
     requires { length ids.now ≤ 16 }
     ensures { take (length ids.now) result ≡ map (transfer_stamp_in manifest.now) ids.now }
 {
+    let entries = entries_of_values(manifest.ids.row(0).references(), ids);
     let mut stamps = [None; AHEAD];
     for place in 0..ids.len() {
-        stamps[place] = transfer_stamp(manifest, ids[place]);
+        stamps[place] = stamp_of(entries[place]);
     }
     stamps
 }
 
-/// The transfer with the timestamp that was found, where its table has it.
-fn stamped_transfer<'r, A: Allocator, N: Naming>(
-    manifest: &Manifest<'r, A, N>,
-    stamp: Option<u64>,
-) -> Option<&'r Transfer>
-    ensures { option_copied result ≡ option_and_then (transfer_in manifest.now) stamp }
+/// The transfer in an entry, if there is one.
+#[inline]
+fn transfer_of<'r>(found: Option<&'r Option<Stored<Transfer>>>) -> Option<&'r Transfer>
+    ensures { option_copied result ≡ stored_record (option_flatten (option_copied found.entry)) }
 {
-    transfer_at(manifest, stamp?)
+    match found {
+        Some(Some(stored)) => Some(&stored.record),
+        _ => None,
+    }
 }
 
 /// The transfers with these ids, each in the place of its id, where its table has it: two look-ups in rows for each of them.
-/// All timestamps are looked up before the first of the transfers, so that many of these come from far memory at once.
+///
+/// The entries of all ids are found before the first of them is read, and so it is with the transfers, so that many come from
+/// far memory at once.
 fn transfers_ahead<'r, A: Allocator, N: Naming>(
     manifest: &Manifest<'r, A, N>,
     ids: &[u128],
@@ -87,9 +91,10 @@ fn transfers_ahead<'r, A: Allocator, N: Naming>(
     ensures { map option_copied (take (length ids.now) result) ≡ map (λ id. option_and_then (transfer_in manifest.now) (transfer_stamp_in manifest.now id)) ids.now }
 {
     let stamps = transfer_stamps(manifest, ids);
+    let entries = entries_at_stamps(manifest.transfers.row(0).references(), &stamps[..ids.len()]);
     let mut found = [None; AHEAD];
     for place in 0..ids.len() {
-        found[place] = stamped_transfer(manifest, stamps[place]);
+        found[place] = transfer_of(entries[place]);
     }
     found
 }

@@ -18,17 +18,6 @@ pub fn key_of(value: u128, timestamp: u64) -> Key
     Key { value, timestamp }
 }
 
-/// The transfer with this timestamp, where its table has it.
-pub fn transfer_at<'r, A: Allocator, N: Naming>(
-    manifest: &Manifest<'r, A, N>,
-    timestamp: u64,
-) -> Option<&'r Transfer>
-    ensures { option_copied result ≡ transfer_in manifest.now timestamp }
-{
-    let stored = manifest.transfers.row(0).find(&key_of(0, timestamp))?;
-    Some(&stored.record)
-}
-
 /// The account with this timestamp, as it was stored, where its table has it.
 pub fn stored_account_at<'r, A: Allocator, N: Naming>(
     manifest: &Manifest<'r, A, N>,

@@ -129,10 +129,11 @@ impl<'t, 'r, V: RowValue, A: Allocator, N: Naming> Walk<'t, 'r, V, A, N> {
         ensures found { IfSome result (λ entry. entry_of key.now (lists_of self.old) ≡ Some (option_copied entry)) }
         ensures same { self.new ≡ self.old }
     {
-        let mut coming = self.coming.take()?;
-        let entry = coming.entry(self.direction, key);
-        self.coming = Some(coming);
-        entry
+        let direction = self.direction;
+        let Some(coming) = &mut self.coming else {
+            return None;
+        };
+        coming.entry(direction, key)
     }
 
     /// The same as `find`, by all tables from the newest on.

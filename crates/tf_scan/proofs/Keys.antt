@@ -31,7 +31,7 @@ use Rattle.tf_scan.proofs.Moves.{written-none, written-more}
 
 -- ---- the first of a list
 
-taken-long : {X : Type 0} (d : Direction) (x : X) (old mid : List X) → IsTaken d x old mid → length old ≡ suc (length mid)
+pub taken-long : {X : Type 0} (d : Direction) (x : X) (old mid : List X) → IsTaken d x old mid → length old ≡ suc (length mid)
 taken-long Rising x old mid e = ap length e
 taken-long Falling x old mid e = ap length e ∙ omega (arith, length_push mid x)
 
@@ -54,7 +54,7 @@ module _ {X : Type 0} (time : X → ℕ) (d : Direction) (until : Option ℕ) wh
   first-long [] old new a = omega (arith, ap length a)
   first-long (x ∷ xs) old new a = omega (arith, taken-long d x old a.0 a.1, first-long xs a.0 new a.3)
 
-  first-rest : (xs old new : List X) → AreFirst time d until xs old new → new ≡ without d (length xs) old
+  pub first-rest : (xs old new : List X) → AreFirst time d until xs old new → new ≡ without d (length xs) old
   first-rest [] old new a = a ∙ sym (without-none d old)
   first-rest (x ∷ xs) old new a = first-rest xs a.0 new a.3 ∙ without-one d x (length xs) old a.0 a.1
 

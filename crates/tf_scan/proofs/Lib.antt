@@ -1,4 +1,5 @@
 pub mod Order
+pub mod Paired
 pub mod Members
 pub mod Joins
 pub mod Seeks

@@ -1,6 +1,6 @@
 -- Runs: rows that are taken out one after another, and timestamps that are written into a list.
 use Rattle.std.specs.Prelude.{◌≡◌, ℕ, ◌+◌, ◌-◌, ◌≤◌, true, List, [], ◌∷◌, ◌++◌, Option, length, map, take, drop}
-use Rattle.std.specs.List.{AllByRecursion}
+use Rattle.std.specs.List.{AllByRecursion, zip}
 use Rattle.std.specs.declared.cmp.Ordering.TheVariants.{Less}
 use Rattle.tf_table.specs.declared.key.Key.{Key}
 use Rattle.tf_table.specs.Key.{key_cmp}
@@ -74,6 +74,12 @@ pub record WritesRows {V : Type 0} (d : Direction) (until : Option ℕ) (from to
   pub rows : List (Key × Option V)
   pub taken : AreFirst (λ (row : Key × Option V). row.0.timestamp) d until rows old new
   pub written : AreWritten (timestamps (values_of rows)) from to out_old out_new
+
+-- rows with these keys and entries were passed over in turn, so many of them, and the timestamps of those with a value were written
+pub record WritesEntries {V : Type 0} (d : Direction) (until : Option ℕ) (from to passed : ℕ) (keys : List Key) (entries : List (Option V)) (out_old out_new : List ℕ) : Type 0 where
+  pub left : List (Key × Option V)
+  pub writes : WritesRows d until from to (zip keys entries) left out_old out_new
+  pub count : passed + length left ≡ length (zip keys entries)
 
 -- rows were taken out of a place in turn, and the timestamps of those with a value were written
 pub record WritesRun {V A : Type 0} (d : Direction) (until : Option ℕ) (from to : ℕ) (old new : Place V A) (out_old out_new : List ℕ) : Type 0 where

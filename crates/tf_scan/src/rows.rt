@@ -61,13 +61,13 @@ pub(crate) fn pass<V, A: Allocator>(direction: Direction, rows: &mut Cursor<'_, 
     }
 }
 
-/// The key that comes first, and the others.
+/// The one of these that comes first, and the others.
 #[inline]
-pub(crate) fn split_first(direction: Direction, keys: &[Key]) -> Option<(&Key, &[Key])>
-    ensures { MatchOption result (keys.now ≡ []) (λ split. IsTaken direction split.0.now keys.now split.1.now) }
+pub(crate) fn split_first<T>(direction: Direction, items: &[T]) -> Option<(&T, &[T])>
+    ensures { MatchOption result (items.now ≡ []) (λ split. IsTaken direction split.0.now items.now split.1.now) }
 {
     match direction {
-        Direction::Rising => keys.split_first(),
-        Direction::Falling => keys.split_last(),
+        Direction::Rising => items.split_first(),
+        Direction::Falling => items.split_last(),
     }
 }

@@ -4,7 +4,7 @@ ghost use Rattle.tf_table.specs.Content.{values_of};
 ghost use Rattle.tf_table.specs.Merge.{seen};
 ghost use Rattle.tf_table.specs.Span.{timestamps};
 ghost use Rattle.tf_scan.specs.Place.{is_past, IsTaken};
-ghost use Rattle.tf_scan.specs.Run.{AreRising, EndsArePast, AreWritten, WritesRows, WritesKeys};
+ghost use Rattle.tf_scan.specs.Run.{AreRising, EndsArePast, AreWritten, WritesEntries, WritesKeys, WritesRows};
 
 use crate::Direction;
 use crate::rows::{first, first_timestamp, pass, split_first};
@@ -24,8 +24,9 @@ pub(crate) fn take_rows<V, A: Allocator>(
     requires { from ≤ length out.old }
     ensures { WritesRows direction turn.until from result rows.old rows.new out.old out.new }
 {
-    let to = take_values(direction, turn, rows, out, from);
-    take_each(direction, turn, rows, out, to)
+    let values_to = take_values(direction, turn, rows, out, from);
+    let entries_to = take_entries(direction, turn, rows, out, values_to);
+    take_each(direction, turn, rows, out, entries_to)
 }
 
 /// The same, row by row.
@@ -102,6 +103,63 @@ fn take_values<V, A: Allocator>(
     let to = write_first(direction, turn, keys, out, from);
     pass(direction, rows, to - from);
     to
+}
+
+/// The same as `take_rows`, where the rows have an entry each. Else it takes none.
+fn take_entries<V, A: Allocator>(
+    direction: Direction,
+    turn: Turn,
+    rows: &mut Cursor<'_, V, A>,
+    out: &mut [u64],
+    from: usize,
+) -> usize
+    requires { from ≤ length out.old }
+    ensures { WritesRows direction turn.until from result rows.old rows.new out.old out.new }
+{
+    let (keys, column) = rows.runs();
+    let Column::Each(entries) = column else {
+        return from;
+    };
+    let (to, passed) = write_entries(direction, turn, keys, entries, out, from);
+    pass(direction, rows, passed);
+    to
+}
+
+/// Writes the timestamps of the first rows with these keys and entries, of those with a value, into `out` from one place on, as
+/// long as the turn lasts and there is room. It tells the place behind the last, and how many rows it passed over.
+fn write_entries<V>(
+    direction: Direction,
+    turn: Turn,
+    keys: &[Key],
+    entries: &[Option<V>],
+    out: &mut [u64],
+    from: usize,
+) -> (usize, usize)
+    requires room { from ≤ length out.old }
+    requires paired { length keys.now ≡ length entries.now }
+    ensures { WritesEntries direction turn.until from result.0 result.1 keys.now entries.now out.old out.new }
+{
+    let mut left_keys = keys;
+    let mut left_entries = entries;
+    let mut to = from;
+    let mut passed = 0;
+    while to < out.len() {
+        let Some((key, other_keys)) = split_first(direction, left_keys) else {
+            return (to, passed);
+        };
+        let Some((entry, other_entries)) = split_first(direction, left_entries) else {
+            return (to, passed);
+        };
+        let is_in_turn = turn.has(direction, key.timestamp);
+        if !is_in_turn {
+            return (to, passed);
+        }
+        to = write_row((key, entry.as_ref()), out, to);
+        passed += 1;
+        left_keys = other_keys;
+        left_entries = other_entries;
+    }
+    (to, passed)
 }
 
 /// Writes the timestamps of the first keys, which rise, into `out` from one place on, as long as the turn lasts and there
