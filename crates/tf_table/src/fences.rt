@@ -38,8 +38,9 @@ pub(crate) fn near(fences: &[u64], scale: &Scale, keys: &[Key], key: &Key) -> St
     Start::Near(place_behind(passed, keys, key))
 }
 
-/// The same, of a search among the keys from a place on, whose place is counted from there. It takes a number of comparisons
-/// that grows with the logarithm of the fences passed over.
+/// The same, of a search among the keys from a place on, whose place is counted from there. Where one of the next eight keys
+/// isn't less it begins at the first of them; else it takes a number of comparisons that grows with the logarithm of the fences
+/// passed over.
 #[inline]
 pub(crate) fn near_behind(
     fences: &[u64],
@@ -48,11 +49,23 @@ pub(crate) fn near_behind(
     key: &Key,
     first: usize,
 ) -> Start {
+    if !is_less_at(keys, first.saturating_add(KEYS_A_FENCE - 1), key) {
+        return Start::Front;
+    }
     let rank = scale.rank(key);
     let skipped = (first / KEYS_A_FENCE).min(fences.len());
     let passed = count_passed(front(&fences[skipped..], rank), rank);
     let place = place_behind(skipped.saturating_add(passed), keys, key);
     Start::Near(place.saturating_sub(first))
+}
+
+/// Whether there is a key at a place, and it is below `key`.
+#[inline]
+fn is_less_at(keys: &[Key], place: usize, key: &Key) -> bool {
+    match keys.get(place) {
+        Some(other) => other.is_below(key),
+        None => false,
+    }
 }
 
 /// The place of a key among those behind so many fences.

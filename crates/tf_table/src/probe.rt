@@ -7,7 +7,7 @@ use crate::fences::place_behind;
 ///
 /// It goes on step by step, so that several searches take turns: each step reads one fence, and those of all searches come
 /// from memory together. Where it ends is a hint, and so is the place before the end: what is found there says what the
-/// table has. Of a table without fences the place is 0.
+/// table has. In a table without fences it ends among the first eight rows.
 #[derive(Clone, Copy)]
 pub struct Probe<'a> {
     keys: &'a [Key],

@@ -9,6 +9,7 @@ mod many;
 mod mutable;
 mod refusals;
 mod seeks;
+mod turns;
 
 use std::alloc::{Allocator, Global};
 use std::test::Fail;

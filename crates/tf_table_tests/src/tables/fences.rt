@@ -11,11 +11,11 @@ use tf_table::{Key, Log, MutableTable, Sealed, merge};
 const ROWS: u64 = 5_000;
 
 /// Places of keys. Each odd one has a row.
-const PLACES: u64 = 2 * ROWS + 1;
+pub(super) const PLACES: u64 = 2 * ROWS + 1;
 
 /// How keys are spread.
 #[derive(Clone, Copy)]
-enum Spread {
+pub(super) enum Spread {
     /// Values all over 128 bits, with any timestamps.
     Wide,
     /// Four values.
@@ -26,10 +26,10 @@ enum Spread {
     Near,
 }
 
-const SPREADS: [Spread; 4] = [Spread::Wide, Spread::Few, Spread::Far, Spread::Near];
+pub(super) const SPREADS: [Spread; 4] = [Spread::Wide, Spread::Few, Spread::Far, Spread::Near];
 
 /// The key of a place, by rising key.
-fn key(spread: Spread, place: u64) -> Key {
+pub(super) fn key(spread: Spread, place: u64) -> Key {
     let bits = place.wrapping_mul(0x9e37_79b9_7f4a_7c15);
     match spread {
         Spread::Wide => Key {
@@ -52,7 +52,7 @@ fn key(spread: Spread, place: u64) -> Key {
 }
 
 /// A table of the rows at every so many places, the first of which is given.
-fn table_of(
+pub(super) fn table_of(
     rt: &impl AllocGlobal,
     spread: Spread,
     first: u64,
