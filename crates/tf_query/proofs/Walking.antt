@@ -1,6 +1,6 @@
 -- Rows of a table that are still to come, and what they say of their keys.
-use Rattle.std.proofs.Common.{◌≡◌, subst, refl, sym, ℕ, Bool, true, false, cond, List, [], ◌∷◌, ◌++◌, filter, take, Option, Some, None, MatchOption, slice_get, inl, inr}
-use Rattle.std.specs.List.{AllByRecursion}
+use Rattle.std.proofs.Common.{◌≡◌, subst, refl, sym, arith, ℕ, Bool, true, false, cond, List, [], ◌∷◌, ◌++◌, filter, length, take, Option, Some, slice_get, inl, inr}
+use Rattle.std.specs.List.{AllByRecursion, zip}
 use Rattle.tf_btree.specs.Rows.{IsRising}
 use Rattle.tf_table.specs.declared.key.Key.{Key}
 use Rattle.tf_table.specs.Content.{entry_at, entry_of}
@@ -10,9 +10,11 @@ use Rattle.tf_manifest.proofs.Pairs.{value_listed}
 use Rattle.tf_scan.specs.declared.direction.Direction.{Direction}
 use Rattle.tf_scan.specs.declared.direction.Direction.TheVariants.{Rising, Falling}
 use Rattle.tf_scan.specs.Place.{IsTaken, rows_behind}
+use Rattle.tf_scan.proofs.Keys.{taken-long}
+use Rattle.tf_scan.proofs.Paired.{taken-paired}
 use Rattle.tf_query.specs.declared.finder.Part.{Part}
 use Rattle.tf_query.specs.Finder.{AreSilent, IsInPart}
-use Rattle.tf_query.specs.Walk.{AreEntries, AreKnown}
+use Rattle.tf_query.specs.Walk.{AreComing, AreEntries, AreKnown, AreTableRows}
 use Rattle.tf_query.proofs.Finding.{entry_there}
 
 module _ {X : Type 0} (P : X → Type 0) where
@@ -57,11 +59,27 @@ module _ {V : Type 0} where
   pub known_key : (lists : List (List (Key × Option V))) (part : Part) (row : Key × Option V) (key : Key) → (IsInPart part row.0.timestamp → entry_of row.0 lists ≡ Some row.1) → row.0 ≡ key → IsInPart part key.timestamp → entry_of key lists ≡ Some row.1
   known_key lists part row key known same = subst (λ k. IsInPart part k.timestamp → entry_of k lists ≡ Some row.1) same known
 
-  -- and where the first is taken out if there is one, those that are left still have their entries
-  pub entries_left : {R : Type 0} (table : List (Key × Option V)) (d : Direction) (shown : R → Key × Option V) (first : Option R) (old new : List (Key × Option V))
-      → MatchOption first ((old ≡ []) × (new ≡ [])) (λ row. IsTaken d (shown row) old new) → AreEntries table old → AreEntries table new
-  entries_left table d shown None old new none entries = subst (AreEntries table) (sym none.1) tt
-  entries_left table d shown (Some row) old new taken entries = (all_taken (λ (r : Key × Option V). entry_at r.0 table ≡ Some r.1) d (shown row) old new taken entries).0
+  -- without the first of them, rows with these keys and entries still have those of a table
+  pub table_rows_left : (table : List (Key × Option V)) (d : Direction) (key : Key) (entry : Option V) (keys others : List Key) (entries rest : List (Option V)) → AreTableRows table keys entries → IsTaken d key keys others → IsTaken d entry entries rest
+      → AreTableRows table others rest
+  table_rows_left table d key entry keys others entries rest rows k e =
+      let paired : length others ≡ length rest = omega (arith, rows.paired, taken-long d key keys others k, taken-long d entry entries rest e) in
+      record {
+        paired = paired;
+        entries_are = (all_taken (λ (r : Key × Option V). entry_at r.0 table ≡ Some r.1) d (key, entry) (zip keys entries) (zip others rest) (taken-paired d key entry keys others entries rest paired k e) rows.entries_are).0;
+      }
+
+  -- where a row is taken out of those that are coming, the others are coming, and that one is known
+  pub coming_taken : (lists : List (List (Key × Option V))) (part : Part) (d : Direction) (key : Key) (entry : Option V) (keys others : List Key) (entries rest : List (Option V)) → AreComing lists part keys entries → IsTaken d key keys others → IsTaken d entry entries rest
+      → AreComing lists part others rest × (IsInPart part key.timestamp → entry_of key lists ≡ Some entry)
+  coming_taken lists part d key entry keys others entries rest coming k e =
+      let paired : length others ≡ length rest = omega (arith, coming.paired, taken-long d key keys others k, taken-long d entry entries rest e) in
+      let both = known_taken lists part d (key, entry) (zip keys entries) (zip others rest) (taken-paired d key entry keys others entries rest paired k e) coming.known in
+      (record { paired = paired; known = both.0 }, both.1)
+
+  -- rows of a table before which no newer one has anything in a part of time
+  pub coming_of : (lists : List (List (Key × Option V))) (place : ℕ) (part : Part) (table : List (Key × Option V)) (keys : List Key) (entries : List (Option V)) → AreSilent part (take place lists) → slice_get lists place ≡ Some table → AreTableRows table keys entries → AreComing lists part keys entries
+  coming_of lists place part table keys entries silent there rows = record { paired = rows.paired; known = known_of lists place part table (zip keys entries) silent there rows.entries_are }
 
 -- two keys of one value and one timestamp are one
 pub one_key : (a b : Key) → a.timestamp ≡ b.timestamp → a.value ≡ b.value → a ≡ b

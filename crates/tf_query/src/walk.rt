@@ -1,72 +1,70 @@
 //! Look-ups of keys whose rows follow one another.
-ghost use Rattle.std.specs.Prelude.{◌≡◌, [], List, Option, IfSome, MatchOption, Some};
+ghost use Rattle.std.specs.Prelude.{◌≡◌, List, Option, IfSome, Some};
 ghost use Rattle.std.specs.Option.{option_copied};
 ghost use Rattle.tf_table.specs.declared.key.Key.{Key};
 ghost use Rattle.tf_table.specs.Content.{entry_of};
-ghost use Rattle.tf_table.specs.Merge.{seen};
 ghost use Rattle.tf_manifest.specs.Row.{content_at, lists_of};
-ghost use Rattle.tf_scan.specs.Place.{IsTaken};
-ghost use Rattle.tf_query.specs.Walk.{AreEntries, AreKnown};
+ghost use Rattle.tf_query.specs.Walk.{AreComing, AreTableRows};
 
 use crate::finder::{Part, newest};
 use std::alloc::Allocator;
 use std::marker::Model;
 use tf_manifest::{Naming, RowValue, TableRef, Tables};
 use tf_scan::Direction;
-use tf_table::{Cursor, Key, Row, Sealed};
+use tf_table::{Column, Key, Sealed};
 
-/// Takes out the row that comes first.
-#[inline]
-fn first<'r, V, A: Allocator>(
-    direction: Direction,
-    rows: &mut Cursor<'r, V, A>,
-) -> Option<Row<'r, V>>
-    ensures { MatchOption result ((rows.old ≡ []) × (rows.new ≡ [])) (λ row. IsTaken direction (seen row) rows.old rows.new) }
-{
-    match direction {
-        Direction::Rising => rows.next(),
-        Direction::Falling => rows.next_back(),
-    }
-}
-
-/// The rows of a table behind a key, in a direction.
-fn rows_behind<'r, V, A: Allocator>(
-    direction: Direction,
-    table: &'r Sealed<V, A>,
-    key: &Key,
-) -> Cursor<'r, V, A>
-    ensures { AreEntries table.now result }
-{
-    // The length tells the proof that no key comes twice.
-    let _length = table.len();
-    let mut rows = match direction {
-        Direction::Rising => table.seek(key),
-        Direction::Falling => table.seek_back(key),
-    };
-    let _own = first(direction, &mut rows);
-    rows
-}
-
-/// Rows of a table that are still to come, and a part of time in which no newer table has anything.
+/// Rows of a table that are still to come, whose entries differ, and a part of time in which no newer table has anything.
 #[derive(Drop)]
-struct Coming<'r, V, A: Allocator> {
+struct Coming<'r, V> {
     part: Part,
-    rows: Cursor<'r, V, A>,
+    keys: &'r [Key],
+    entries: &'r [Option<V>],
 }
 
-impl<'r, V, A: Allocator> Coming<'r, V, A> {
+impl<'r, V> Coming<'r, V> {
+    /// The rows of a table behind a key, in a direction, if they have an entry each.
+    fn behind<A: Allocator>(
+        direction: Direction,
+        part: Part,
+        table: &'r Sealed<V, A>,
+        key: &Key,
+    ) -> Option<Coming<'r, V>>
+        ensures { IfSome result (λ coming. (coming.part ≡ part) × AreTableRows table.now coming.keys.now coming.entries.now) }
+    {
+        // The length tells the proof that no key comes twice.
+        let _length = table.len();
+        let rows = match direction {
+            Direction::Rising => table.seek(key),
+            Direction::Falling => table.seek_back(key),
+        };
+        let (own_keys, column) = rows.runs();
+        let Column::Each(own_entries) = column else {
+            return None;
+        };
+        let (_own_key, keys) = direction.split_first(own_keys)?;
+        let (_own_entry, entries) = direction.split_first(own_entries)?;
+        Some(Coming {
+            part,
+            keys,
+            entries,
+        })
+    }
+
     /// Takes out the next row, and tells its entry if it has the key.
     #[inline]
     fn entry(&mut self, direction: Direction, key: &Key) -> Option<Option<&'r V>>
-        ensures known { (lists : List (List (Key × Option V))) → AreKnown lists self.old.part self.old.rows → AreKnown lists self.new.part self.new.rows }
-        ensures found { (lists : List (List (Key × Option V))) → AreKnown lists self.old.part self.old.rows → IfSome result (λ entry. entry_of key.now lists ≡ Some (option_copied entry)) }
+        ensures known { (lists : List (List (Key × Option V))) → AreComing lists self.old.part self.old.keys.now self.old.entries.now → AreComing lists self.new.part self.new.keys.now self.new.entries.now }
+        ensures found { (lists : List (List (Key × Option V))) → AreComing lists self.old.part self.old.keys.now self.old.entries.now → IfSome result (λ entry. entry_of key.now lists ≡ Some (option_copied entry)) }
     {
         if !self.part.has(key.timestamp) {
             return None;
         }
-        let (other, entry) = first(direction, &mut self.rows)?;
+        let (other, keys) = direction.split_first(self.keys)?;
+        let (entry, entries) = direction.split_first(self.entries)?;
+        self.keys = keys;
+        self.entries = entries;
         if other.timestamp == key.timestamp && other.value == key.value {
-            Some(entry)
+            Some(entry.as_ref())
         } else {
             None
         }
@@ -76,13 +74,14 @@ impl<'r, V, A: Allocator> Coming<'r, V, A> {
 /// Looks keys up in the tables of a row whose rows follow one another in a direction, as do those of one value and of the
 /// timestamps that a scan gives.
 ///
-/// It keeps the rows behind the last one in its table, and in which part of time no newer table has anything. Where the next
-/// key lies in it and the next row has it, that row is all that is read. Else the tables are asked, from the newest on.
+/// It keeps the rows behind the last one in its table, if they have an entry each, and in which part of time no newer table has
+/// anything. Where the next key lies in it and the next row has it, that row is all that is read. Else the tables are asked, from
+/// the newest on.
 #[derive(Drop)]
 pub struct Walk<'t, 'r, V: RowValue, A: Allocator, N: Naming> {
     references: &'t [TableRef<'r, V, A, N>],
     direction: Direction,
-    coming: Option<Coming<'r, V, A>>,
+    coming: Option<Coming<'r, V>>,
 }
 
 impl<'t, 'r, V: RowValue, A: Allocator, N: Naming> Model for Walk<'t, 'r, V, A, N> {
@@ -93,11 +92,11 @@ impl<'t, 'r, V: RowValue, A: Allocator, N: Naming> Model for Walk<'t, 'r, V, A, 
 
     ghost use Rattle.tf_manifest.specs.Reference.{shown_of};
     ghost use Rattle.tf_manifest.specs.Row.{lists_of};
-    ghost use Rattle.tf_query.specs.Walk.{AreKnown};
+    ghost use Rattle.tf_query.specs.Walk.{AreComing};
 
     ghost view = { λ w. map shown_of w.references.now };
 
-    ghost invariant = { λ w. IfSome w.coming (λ c. AreKnown (lists_of (map shown_of w.references.now)) c.part c.rows) };
+    ghost invariant = { λ w. IfSome w.coming (λ c. AreComing (lists_of (map shown_of w.references.now)) c.part c.keys.now c.entries.now) };
 }
 
 impl<'t, 'r, V: RowValue, A: Allocator, N: Naming> Walk<'t, 'r, V, A, N> {
@@ -144,8 +143,8 @@ impl<'t, 'r, V: RowValue, A: Allocator, N: Naming> Walk<'t, 'r, V, A, N> {
         let (place, part, entry) = newest(self.references, key)?;
         if place < self.references.len() {
             let table = self.references[place].table().table();
-            let rows = rows_behind(self.direction, table, key);
-            self.coming = Some(Coming { part, rows });
+            let coming = Coming::behind(self.direction, part, table, key);
+            self.coming = coming;
         }
         entry
     }

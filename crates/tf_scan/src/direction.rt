@@ -1,7 +1,7 @@
 //! Directions.
-ghost use Rattle.std.specs.Prelude.{◌≡◌};
+ghost use Rattle.std.specs.Prelude.{◌≡◌, [], MatchOption};
 ghost use Rattle.tf_scan.specs.Order as order;
-ghost use Rattle.tf_scan.specs.Place.{is_past};
+ghost use Rattle.tf_scan.specs.Place.{is_past, IsTaken};
 
 /// The order in which the timestamps of a scan come.
 #[derive(Clone, Copy, Debug, PartialEq, Eq)]
@@ -32,6 +32,17 @@ impl Direction {
         match second {
             Some(second) => self.is_before(first, second),
             None => true,
+        }
+    }
+
+    /// The one of these that comes first, and the others, where they stand by rising timestamp.
+    #[inline]
+    pub fn split_first<T>(self, items: &[T]) -> Option<(&T, &[T])>
+        ensures { MatchOption result (items.now ≡ []) (λ split. IsTaken self split.0.now items.now split.1.now) }
+    {
+        match self {
+            Direction::Rising => items.split_first(),
+            Direction::Falling => items.split_last(),
         }
     }
 }

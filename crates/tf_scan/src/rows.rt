@@ -18,7 +18,7 @@ pub(crate) fn first_timestamp<V, A: Allocator>(
     ensures { result ≡ first_in direction (timestamps rows.now) }
 {
     let (keys, _entries) = rows.runs();
-    match split_first(direction, keys) {
+    match direction.split_first(keys) {
         Some((key, _others)) => Some(key.timestamp),
         None => None,
     }
@@ -58,16 +58,5 @@ pub(crate) fn pass<V, A: Allocator>(direction: Direction, rows: &mut Cursor<'_, 
     match direction {
         Direction::Rising => rows.pass(count),
         Direction::Falling => rows.pass_back(count),
-    }
-}
-
-/// The one of these that comes first, and the others.
-#[inline]
-pub(crate) fn split_first<T>(direction: Direction, items: &[T]) -> Option<(&T, &[T])>
-    ensures { MatchOption result (items.now ≡ []) (λ split. IsTaken direction split.0.now items.now split.1.now) }
-{
-    match direction {
-        Direction::Rising => items.split_first(),
-        Direction::Falling => items.split_last(),
     }
 }

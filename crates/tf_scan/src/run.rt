@@ -7,7 +7,7 @@ ghost use Rattle.tf_scan.specs.Place.{is_past, IsTaken};
 ghost use Rattle.tf_scan.specs.Run.{AreRising, EndsArePast, AreWritten, WritesEntries, WritesKeys, WritesRows};
 
 use crate::Direction;
-use crate::rows::{first, first_timestamp, pass, split_first};
+use crate::rows::{first, first_timestamp, pass};
 use crate::turn::Turn;
 use std::alloc::Allocator;
 use tf_table::{Column, Cursor, Key, Row};
@@ -144,10 +144,10 @@ fn write_entries<V>(
     let mut to = from;
     let mut passed = 0;
     while to < out.len() {
-        let Some((key, other_keys)) = split_first(direction, left_keys) else {
+        let Some((key, other_keys)) = direction.split_first(left_keys) else {
             return (to, passed);
         };
-        let Some((entry, other_entries)) = split_first(direction, left_entries) else {
+        let Some((entry, other_entries)) = direction.split_first(left_entries) else {
             return (to, passed);
         };
         let is_in_turn = turn.has(direction, key.timestamp);
@@ -191,10 +191,10 @@ fn write_first(
 fn lasts_for_ends(direction: Direction, turn: Turn, keys: &[Key]) -> bool
     ensures { IsTrue result → EndsArePast direction turn.until keys.now }
 {
-    let Some((least, _above)) = split_first(Direction::Rising, keys) else {
+    let Some((least, _above)) = Direction::Rising.split_first(keys) else {
         return false;
     };
-    let Some((greatest, _below)) = split_first(Direction::Falling, keys) else {
+    let Some((greatest, _below)) = Direction::Falling.split_first(keys) else {
         return false;
     };
     if least.value != greatest.value
@@ -221,7 +221,7 @@ fn write_timestamps(
     let mut left = keys;
     let mut to = from;
     while to < out.len() {
-        let Some((key, others)) = split_first(direction, left) else {
+        let Some((key, others)) = direction.split_first(left) else {
             return to;
         };
         if !turn.has(direction, key.timestamp) {
