@@ -87,7 +87,8 @@ fn guesses<V: RowValue, A: Allocator, N: Naming>(
     guesses
 }
 
-/// The entry of a key in a table, as it is stored there, where the key may be expected at a place.
+/// The entry of a key in a table, as it is stored there, where the key may be expected at a place. Most tables that don't have it
+/// are passed over without a call.
 #[inline]
 fn entry_at<'r, V: RowValue, A: Allocator>(
     table: &'r Sealed<V, A>,
@@ -96,10 +97,13 @@ fn entry_at<'r, V: RowValue, A: Allocator>(
 ) -> Option<&'r Option<V>>
     ensures { option_copied result ≡ entry_at key.now table.now }
 {
-    match row {
-        Some(row) => table.entry_near(key, row),
-        None => table.entry(key),
+    if let Some(row) = row {
+        return table.entry_near(key, row);
     }
+    if !table.may_have(key) {
+        return None;
+    }
+    table.entry(key)
 }
 
 /// The entry of a key in the newest table that has it, as it is stored there. No entry is read.

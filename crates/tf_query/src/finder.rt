@@ -1,7 +1,7 @@
 //! Look-ups of many records in the tables of their row, one after another.
 ghost use Rattle.std.specs.Prelude.{◌≡◌, ℕ, map, IfSome, IsTrue, MatchOption, None, Some};
-ghost use Rattle.std.specs.Option.{option_copied};
-ghost use Rattle.tf_table.specs.Content.{entry_of};
+ghost use Rattle.std.specs.Option.{option_copied, option_map};
+ghost use Rattle.tf_table.specs.Content.{entry_at, entry_of};
 ghost use Rattle.tf_manifest.specs.Reference.{shown_of};
 ghost use Rattle.tf_manifest.specs.Row.{content_at, lists_of};
 ghost use Rattle.tf_manifest.specs.Rows.{key_of};
@@ -11,7 +11,7 @@ use crate::reads::key_of;
 use std::alloc::Allocator;
 use std::marker::Model;
 use tf_manifest::{Naming, RowValue, TableRef, Tables};
-use tf_table::{Key, Span};
+use tf_table::{Key, Sealed, Span};
 
 /// A part of time, with both ends. There is none where the first comes after the last.
 #[derive(Clone, Copy)]
@@ -181,6 +181,20 @@ fn dated_entries<'r, V: RowValue, A: Allocator, N: Naming>(
     }
 }
 
+/// The entry of a key in a table. Most tables that don't have it are passed over without a call.
+#[inline]
+fn find_in<'r, V: RowValue, A: Allocator>(
+    table: &'r Sealed<V, A>,
+    key: &Key,
+) -> Option<Option<&'r V>>
+    ensures { option_map option_copied result ≡ entry_at key.now table.now }
+{
+    if !table.may_have(key) {
+        return None;
+    }
+    table.find(key)
+}
+
 /// The place of the newest table that has a key, the part of time around the key in which no newer one has anything, and the
 /// key's entry.
 pub fn newest<'r, V: RowValue, A: Allocator, N: Naming>(
@@ -192,7 +206,7 @@ pub fn newest<'r, V: RowValue, A: Allocator, N: Naming>(
     let mut part = Part::all();
     for place in 0..references.len() {
         let table = references[place].table().table();
-        if let Some(entry) = table.find(key) {
+        if let Some(entry) = find_in(table, key) {
             return Some((place, part, entry));
         }
         part = part.beside(table.span(), key.timestamp);

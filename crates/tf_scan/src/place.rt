@@ -41,9 +41,7 @@ impl<'r, V, A: Allocator> Place<'r, V, A> {
         ensures rows { (value t : ℕ) → entry_at (key_of value t) (rows_left direction value result) ≡ entry_at (key_of value t) table.now }
     {
         // `len` tells the proof that the rows rise.
-        if table.len() == 0 {
-            return Place::End;
-        }
+        let _length = table.len();
         match table.span() {
             Some(span) => Place::Closed(table, start(direction, span)),
             None => Place::End,

@@ -14,7 +14,7 @@ returns-in-Some g c =
     let there : slice_get lists c.loop-place.place ≡ Some rows =
     rows_there shown_of (λ (t : Shown g.row.V.Denot). t.table.rows) c.args.references.now c.loop-place.place c.index-references-place.result rows (omega arith) c.index-references-place.is
     (c.table-table.ensures ∙ ap (λ (t : Table g.row.V.Denot). t.rows) c.table.ensures) in
-    let has : entry_at c.args.key.now rows ≡ Some (option_copied c.in-Some.entry) = sym c.find.ensures ∙ ap (option_map option_copied) c.in-Some.is in
+    let has : entry_at c.args.key.now rows ≡ Some (option_copied c.in-Some.entry) = sym c.find_in.ensures ∙ ap (option_map option_copied) c.in-Some.is in
     record {
       found = entry_there c.args.key.now c.loop-place.place lists rows (option_copied c.in-Some.entry) c.loop-place.invariant.absent there has;
       silent = c.loop-place.invariant.silent;
@@ -27,7 +27,7 @@ loop-place-preserved g c =
     let there : slice_get lists c.loop-place.place ≡ Some rows =
     rows_there shown_of (λ (t : Shown g.row.V.Denot). t.table.rows) c.args.references.now c.loop-place.place c.index-references-place.result rows (omega arith) c.index-references-place.is
     (c.table-table.ensures ∙ ap (λ (t : Table g.row.V.Denot). t.rows) c.table.ensures) in
-    let hasnt : entry_at c.args.key.now rows ≡ None = sym c.find.ensures ∙ ap (option_map option_copied) c.in_default.is in
+    let hasnt : entry_at c.args.key.now rows ≡ None = sym c.find_in.ensures ∙ ap (option_map option_copied) c.in_default.is in
     record {
       absent = ap (λ n. entry_of c.args.key.now (take n lists)) (add-one c.loop-place.place) ∙ entry_next c.args.key.now c.loop-place.place lists rows c.loop-place.invariant.absent there ∙ hasnt;
       silent = silent_next c.loop-place.place lists rows c.loop-place.part c.beside-part.result c.span.result there c.span.ensures c.beside-part.ensures.kept c.beside-part.ensures.outside c.loop-place.invariant.silent;
