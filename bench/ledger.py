@@ -54,9 +54,9 @@ SETTLED = (
     "merges it in the writer's thread: such rows could be merged before, by others."
 )
 SEARCHES = (
-    "two thirds of a short query's instructions find the first timestamps of the account's two sides, by searches for both ends "
-    "in two or three tables of each, and a fifth make the scans, with a place for each of some 16 tables: places could be made "
-    "as their tables' turn comes."
+    "half of a short query's instructions find the first timestamps of the account's two sides, and a third make the scans, with a place "
+    "for each of some 16 tables, which is copied three times, and with boxes for which memory is taken six times: places could be made as "
+    "their tables' turn comes."
 )
 NEXT = {name: CHANGES for name, _ in INGEST}
 NEXT |= {name: SETTLED for name in ("pending_post", "pending_void")}
@@ -70,10 +70,10 @@ NEXT |= {
     "to test its ledger; an index of ledgers and values together would lead to those wanted alone.",
     "query_ledger_with_code": "each transfer with the code is found by a search for its table and its place there, and read from far memory "
     "to test its ledger; an index of ledgers and codes together would lead to those wanted alone.",
-    "query_balances_200": "the account's rows are searched three times in each of some 16 tables, for their timestamps, for the first "
-    "row and for the rows behind it; a scan that gives rows and not timestamps alone would search once.",
-    "look_up_random": "of each id the filters of some 16 tables are asked, one after another, and then the fences of one of them, a key, its "
-    "value and a record, each of which tells where the next lies: ids could take turns at each step.",
+    "query_balances_200": "an account's rows lie in far memory in each of some 16 tables, and each is searched three times, for their "
+    "timestamps, for the first row and for the rows behind it: the searches could take turns, as those for ids do, and the two later ones "
+    "begin where the first ended.",
+    "look_up_random": "of each id the filters of some 16 tables are asked twice, to guess its table and to look it up.",
 }
 HEAD = [
     "| workload | transfers | merges | ours, ms | plain Rust, ms | rate | worst batch, ms | plain Rust's, ms | peak MiB | plain Rust's, MiB | events | publishes | merges |",

@@ -52,8 +52,45 @@ fn stamp_of(found: Option<&Option<IdStamp>>) -> Option<u64>
     }
 }
 
-/// The timestamps of the transfers with these ids, each in the place of its id.
-fn transfer_stamps<A: Allocator, N: Naming>(
+/// The timestamp of the transfer with this id.
+fn transfer_stamp<A: Allocator, N: Naming>(manifest: &Manifest<'_, A, N>, id: u128) -> Option<u64>
+    ensures { result ≡ transfer_stamp_in manifest.now id }
+{
+    match manifest.ids.row(0).find(&key_of(id, 0)) {
+        Some(IdStamp::Stored(timestamp)) => Some(*timestamp),
+        _ => None,
+    }
+}
+
+/// Whether no id is below the one before it.
+fn are_rising(ids: &[u128]) -> bool {
+    let mut last = 0;
+    for id in ids {
+        if *id < last {
+            return false;
+        }
+        last = *id;
+    }
+    true
+}
+
+/// The timestamps of the transfers with these ids, each in the place of its id, by one search after another.
+fn stamps_one_by_one<A: Allocator, N: Naming>(
+    manifest: &Manifest<'_, A, N>,
+    ids: &[u128],
+) -> [Option<u64>; AHEAD]
+    requires { length ids.now ≤ 16 }
+    ensures { take (length ids.now) result ≡ map (transfer_stamp_in manifest.now) ids.now }
+{
+    let mut stamps = [None; AHEAD];
+    for place in 0..ids.len() {
+        stamps[place] = transfer_stamp(manifest, ids[place]);
+    }
+    stamps
+}
+
+/// The same, by searches that take turns.
+fn stamps_at_once<A: Allocator, N: Naming>(
     manifest: &Manifest<'_, A, N>,
     ids: &[u128],
 ) -> [Option<u64>; AHEAD]
@@ -66,6 +103,24 @@ fn transfer_stamps<A: Allocator, N: Naming>(
         stamps[place] = stamp_of(entries[place]);
     }
     stamps
+}
+
+/// The timestamps of the transfers with these ids, each in the place of its id.
+///
+/// Where ids rise a search mostly goes the way of the one before it, and reads what that one read: then they follow one another. Else
+/// they take turns.
+fn transfer_stamps<A: Allocator, N: Naming>(
+    manifest: &Manifest<'_, A, N>,
+    ids: &[u128],
+) -> [Option<u64>; AHEAD]
+    requires { length ids.now ≤ 16 }
+    ensures { take (length ids.now) result ≡ map (transfer_stamp_in manifest.now) ids.now }
+{
+    if are_rising(ids) {
+        stamps_one_by_one(manifest, ids)
+    } else {
+        stamps_at_once(manifest, ids)
+    }
 }
 
 /// The transfer in an entry, if there is one.

@@ -7,9 +7,6 @@ use std::process::Abort;
 use std::test::Fail;
 use tf_table::{Key, Probe, Sealed, seal, take_turns};
 
-/// How many searches take turns.
-const MANY: usize = 16;
-
 /// The entry of the key of a place, looked up where it is expected.
 fn entry_near(
     spread: Spread,
@@ -20,25 +17,43 @@ fn entry_near(
     table.entry_near(&key(spread, place), row).copied()
 }
 
-/// Sixteen searches from a place on take turns. Each ends at the row of its key, or of the next one, unless the values are so far
-/// apart that fences don't tell rows of one value from each other.
+/// The search for the key of a place ended at this row: that of the key, or of the next one, unless the values are so far apart that
+/// fences don't tell rows of one value from each other. Whichever it is, what is found there is the key's.
+fn assert_turn(
+    rt: &impl Abort,
+    spread: Spread,
+    table: &Sealed<u64, Global>,
+    place: u64,
+    row: usize,
+) {
+    let found = if place % 2 == 1 {
+        Some(Some(place))
+    } else {
+        None
+    };
+    assert_eq!(rt; entry_near(spread, table, place, row), found, "at {place}");
+    let is_told = !matches!(spread, Spread::Far);
+    assert!(rt; !is_told || row as u64 == place / 2, "the row of {place}");
+}
+
+/// A search for the key so many places behind one.
+fn probe_at(spread: Spread, table: &Sealed<u64, Global>, first: u64, behind: u64) -> Probe<'_> {
+    table.probe(&key(spread, first.saturating_add(behind)))
+}
+
+/// Four searches from a place on take turns.
 fn assert_turns(rt: &impl Abort, spread: Spread, table: &Sealed<u64, Global>, first: u64) {
-    let mut probes = [Probe::ended(); MANY];
-    for probe in 0..MANY {
-        probes[probe] = table.probe(&key(spread, first.saturating_add(probe as u64)));
-    }
+    let mut probes = [
+        probe_at(spread, table, first, 0),
+        probe_at(spread, table, first, 1),
+        probe_at(spread, table, first, 2),
+        probe_at(spread, table, first, 3),
+    ];
     take_turns(&mut probes);
-    for probe in 0..MANY {
-        let place = first.saturating_add(probe as u64);
-        let row = probes[probe].place();
-        let found = if place % 2 == 1 {
-            Some(Some(place))
-        } else {
-            None
-        };
-        assert_eq!(rt; entry_near(spread, table, place, row), found, "at {place}");
-        let is_told = !matches!(spread, Spread::Far);
-        assert!(rt; !is_told || row as u64 == place / 2, "the row of {place}");
+    let mut place = first;
+    for probe in probes {
+        assert_turn(rt, spread, table, place, probe.place());
+        place = place.saturating_add(1);
     }
 }
 
@@ -46,8 +61,8 @@ fn assert_turns(rt: &impl Abort, spread: Spread, table: &Sealed<u64, Global>, fi
 fn searches_that_take_turns_end_where_keys_stand(rt: HostRuntime) -> Result<(), Fail> {
     for spread in SPREADS {
         let table = table_of(&rt, spread, 1, 2)?;
-        for first in 0..PLACES / 16 {
-            assert_turns(&rt, spread, &table, first.saturating_mul(16));
+        for first in 0..PLACES / 4 {
+            assert_turns(&rt, spread, &table, first.saturating_mul(4));
         }
     }
     Ok(())

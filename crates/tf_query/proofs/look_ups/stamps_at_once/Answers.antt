@@ -9,7 +9,7 @@ use Rattle.tf_manifest.specs.Rows.{key_of}
 use Rattle.tf_manifest.specs.View.{View, tables_by}
 use Rattle.tf_query.specs.Reads.{stored_stamp, transfer_stamp_in}
 use Rattle.tf_query.proofs.Ahead.{given-ahead, same-ahead}
-use Rattle.tf_query.proofs.look_ups.transfer_stamps.Goals as goal
+use Rattle.tf_query.proofs.look_ups.stamps_at_once.Goals as goal
 
 pub loop-place-preserved : goal.loop-place-preserved
 loop-place-preserved g c =

@@ -1,6 +1,6 @@
 use Rattle.std.proofs.Common.{◌≡◌, length, map, take}
 use Rattle.tf_query.specs.Reads.{transfer_stamp_in}
-use Rattle.tf_query.proofs.look_ups.transfer_stamps.Given as goal
+use Rattle.tf_query.proofs.look_ups.stamps_one_by_one.Given as goal
 
 abbrev pub invariant-loop-place : goal.invariant-loop-place
 invariant-loop-place g l = record {
