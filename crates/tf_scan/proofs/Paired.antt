@@ -1,7 +1,6 @@
 -- Rows whose keys and entries lie in two lists.
-use Rattle.std.proofs.Common.{◌≡◌, ℕ, suc, ◌+◌, ◌<◌, ◌≤◌, List, [], ◌∷◌, ◌++◌, Option, true, refl, sym, ◌∙◌, ap, subst, arith, length}
+use Rattle.std.proofs.Common.{◌≡◌, ℕ, ◌+◌, ◌≤◌, List, [], ◌∷◌, ◌++◌, Option, true, refl, sym, ◌∙◌, ap, subst, arith, length}
 use Rattle.std.specs.List.{zip}
-use Rattle.std.proofs.lemmas.List.{length_push}
 use Rattle.tf_table.specs.declared.key.Key.{Key}
 use Rattle.tf_table.specs.Content.{values_of}
 use Rattle.tf_table.specs.Span.{timestamps}
