@@ -73,6 +73,7 @@ NEXT |= {
     "query_balances_200": "an account's rows lie in far memory in each of some 16 tables, and each is searched three times, for their "
     "timestamps, for the first row and for the rows behind it: the searches could take turns, as those for ids do, and the two later ones "
     "begin where the first ended.",
+    "look_up_rising": "of each id the filters of some 16 tables are asked, one after another, before its own is searched.",
     "look_up_random": "of each id the filters of some 16 tables are asked twice, to guess its table and to look it up.",
 }
 HEAD = [
