@@ -40,25 +40,11 @@ impl<V, A: Allocator> Sealed<V, A> {
         self.rows_from(key, self.near(key))
     }
 
-    /// The same, by a search that begins at a place, and goes ever further from it.
-    pub fn seek_near(&self, key: &Key, place: usize) -> Cursor<'_, V, A>
-        ensures { result ≡ rows_from key_cmp key.now self.now }
-    {
-        self.rows_from(key, Start::Near(place))
-    }
-
     /// The rows up to the greatest key not above `key`: the last of them is the first from the back. It takes no memory.
     pub fn seek_back(&self, key: &Key) -> Cursor<'_, V, A>
         ensures { result ≡ rows_upto key_cmp key.now self.now }
     {
         self.rows_upto(key, self.near(key))
-    }
-
-    /// The same, by a search that begins at a place, and goes ever further from it.
-    pub fn seek_back_near(&self, key: &Key, place: usize) -> Cursor<'_, V, A>
-        ensures { result ≡ rows_upto key_cmp key.now self.now }
-    {
-        self.rows_upto(key, Start::Near(place))
     }
 
     /// The rows whose keys are neither below `from` nor above `to`. It takes no memory.
@@ -140,7 +126,7 @@ impl<V, A: Allocator> Sealed<V, A> {
     }
 
     /// Their keys and their entries.
-    #[inline]
+    #[inline(always)]
     fn runs(&self, from: usize, to: usize) -> (&[Key], Column<'_, V>)
         requires ordered { from ≤ to }
         requires within { to ≤ length self.now }
@@ -174,7 +160,7 @@ impl<'a, V, A: Allocator> Cursor<'a, V, A> {
     /// The rows that are still to come as they lie in the table: their keys, which rise, and their entries.
     ///
     /// It takes constant time and no memory, and reads no row.
-    #[inline]
+    #[inline(always)]
     pub fn runs(&self) -> (&'a [Key], Column<'a, V>)
         ensures rows { AreRuns result.0.now result.1 self.now }
         // No key comes twice.

@@ -72,7 +72,7 @@ impl<V, A: Allocator> Entries<V, A> {
     }
 
     /// Those from one place up to another.
-    #[inline]
+    #[inline(always)]
     pub(crate) fn column(&self, from: usize, to: usize) -> Column<'_, V>
         requires ordered { from ≤ to }
         requires within { HasEntries to self.now }

@@ -134,6 +134,33 @@ impl<V, A: Allocator> Sealed<V, A> {
         self.entry_from(key, Start::Near(place))
     }
 
+    /// The entry of a key as `entry` finds it, the first key above it that has an entry, and at which place that key stands, or
+    /// would stand. Where the key is expected at a place, which may be any, and stands there, that takes a few comparisons.
+    ///
+    /// So a look-up of a greater key knows without a search that a table doesn't have it, or where.
+    #[inline]
+    pub fn entry_and_next(
+        &self,
+        key: &Key,
+        place: usize,
+    ) -> (Option<&Option<V>>, Option<Key>, usize)
+        ensures entry { option_copied result.0 ≡ entry_at key.now self.now }
+        ensures next { IsFirstAbove key.now (λ found. entry_at found self.now) result.1 }
+    {
+        let (next, behind) = self.next_above(key, self.expected(key, place));
+        (self.entry_near(key, behind.saturating_sub(1)), next, behind)
+    }
+
+    /// Where a search for the place behind a key begins that is expected at a place: behind it, if it stands there. Else the
+    /// fences tell.
+    #[inline]
+    fn expected(&self, key: &Key, place: usize) -> Start {
+        match self.keys.get(place) {
+            Some(other) if other.cmp(key).is_eq() => Start::Near(place.saturating_add(1)),
+            _ => self.near(key),
+        }
+    }
+
     /// A search for the place at which `entry_near` is to look for a key, which goes on step by step.
     #[inline]
     pub fn probe(&self, key: &Key) -> Probe<'_> {
@@ -251,8 +278,17 @@ impl<V, A: Allocator> Sealed<V, A> {
     pub fn first_above(&self, key: &Key) -> Option<Key>
         ensures { IsFirstAbove key.now (λ found. entry_at found self.now) result }
     {
-        let place = count_upto(&self.keys, key, self.near(key));
-        self.keys.get(place).copied()
+        let (next, _behind) = self.next_above(key, self.near(key));
+        next
+    }
+
+    /// The first key above `key` that has an entry, and its place, by a search that begins somewhere.
+    #[inline]
+    fn next_above(&self, key: &Key, start: Start) -> (Option<Key>, usize)
+        ensures { IsFirstAbove key.now (λ found. entry_at found self.now) result.0 }
+    {
+        let behind = count_upto(&self.keys, key, start);
+        (self.keys.get(behind).copied(), behind)
     }
 
     /// The row at a place, counted from 0.

@@ -104,10 +104,9 @@ fn what_is_found_does_not_depend_on_the_place_that_is_expected(
             let here = key(Spread::Few, place);
             let there = key(Spread::Few, place.saturating_add(20).min(PLACES - 1));
             assert!(rt; table.entry_near(&here, row) == table.entry(&here));
-            assert!(rt; table.seek_near(&here, row).runs().0 == table.seek(&here).runs().0);
-            assert!(rt;
-                table.seek_back_near(&here, row).runs().0 == table.seek_back(&here).runs().0
-            );
+            let (entry, next, _place) = table.entry_and_next(&here, row);
+            assert!(rt; entry == table.entry(&here));
+            assert!(rt; next == table.first_above(&here));
             assert!(rt;
                 table.range_near(&here, &there, row).runs().0 == table.range(&here, &there).runs().0
             );
