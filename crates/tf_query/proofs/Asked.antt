@@ -18,12 +18,21 @@ use Rattle.tf_query.specs.Asked.{account_fields_at, account_filter_at, asks_no_f
 use Rattle.tf_query.specs.Conditions.{account_conditions, asks_nothing, field_conditions, meets_all, transfer_conditions}
 use Rattle.tf_query.specs.declared.residual.Residual.{Residual}
 use Rattle.tf_query.specs.Residual.{AreFirstPassing, first_passing}
-use Rattle.tf_query.specs.Windows.{AreFirst, first_within}
+use Rattle.tf_query.specs.Windows.{AreFirst, AreOfFirst, first_within}
 use Rattle.tf_records.specs.declared.transfer.Transfer.{Transfer}
 
 -- what is read at the first timestamps in a window
 pub answered : {T : Type 0} (read : ℕ → Option T) (w : Window) (accepts : ℕ → Bool) (timestamps : List ℕ) (answer : List T) → AreFirst w accepts timestamps → ((left : List ℕ) → IsInOrder w.direction left → ((t : ℕ) → is_among t left ≡ accepts t) → filter_map read (first_within w left) ≡ answer) → filter_map read timestamps ≡ answer
 answered read w accepts timestamps answer f law = ap (filter_map read) f.first ∙ law f.left f.in_order f.members
+
+-- rows of the first timestamps in a window are the answer
+pub of-first : {T R E : Type 0} (r : Result R E) (items : R → List T) (read : ℕ → Option T) (w : Window) (accepts : ℕ → Bool) (answer : List T) → IfOk r (λ v. AreOfFirst read w accepts (items v)) → ((left : List ℕ) → IsInOrder w.direction left → ((t : ℕ) → is_among t left ≡ accepts t) → filter_map read (first_within w left) ≡ answer) → IfOk r (λ v. items v ≡ answer)
+of-first (Ok v) items read w accepts answer rows law = rows.rows_are ∙ answered read w accepts rows.timestamps answer rows.first law
+of-first (Err e) items read w accepts answer rows law = tt
+
+pub rows-of-first : {T R E : Type 0} (r : Result R E) (items : R → List T) (read : ℕ → Option T) (w : Window) (accepts : ℕ → Bool) (timestamps slice : List ℕ) → slice ≡ timestamps → AreFirst w accepts timestamps → IfOk r (λ v. items v ≡ filter_map read slice) → IfOk r (λ v. AreOfFirst read w accepts (items v))
+rows-of-first (Ok v) items read w accepts timestamps slice same first rows = record { timestamps = timestamps; first = first; rows_are = rows ∙ ap (filter_map read) same }
+rows-of-first (Err e) items read w accepts timestamps slice same first rows = tt
 
 -- ---- tests, in the order of conditions and in that of filters
 

@@ -3,6 +3,7 @@ pub mod Directed
 pub mod Keyed
 pub mod Indexed
 pub mod Given
+pub mod Gaps
 pub mod Asking
 pub mod Answered
 pub mod InParts

@@ -1,10 +1,10 @@
 -- Reading timestamps off a scan within bounds.
-use Rattle.std.proofs.Common.{◌≡◌, ◌∙◌, sym, refl, ap, subst, ℕ, zero, suc, ◌+◌, ◌-◌, ◌<◌, ◌≤◌, arith, cond, Bool, true, false, not, ◌&&◌, ◌||◌, List, [], ◌∷◌, ◌++◌, append_assoc, get_or, IfSome, min, length, take, drop}
+use Rattle.std.proofs.Common.{◌≡◌, ◌⊎◌, inl, inr, ◌∙◌, sym, refl, ap, subst, ℕ, zero, suc, ◌+◌, ◌-◌, ◌<◌, ◌≤◌, arith, cond, Bool, true, false, not, ◌&&◌, ◌||◌, List, [], ◌∷◌, ◌++◌, append_assoc, get_or, IfSome, min, length, take, drop}
 use Rattle.std.specs.Prelude.{nat_lt, nat_le, nat_eq, slice_get}
 use Rattle.std.proofs.Math.Seq.{take-append-add}
-use Rattle.std.proofs.lemmas.List.{drop_all, length-append, length-drop, length-take-le, take_at, take-take}
+use Rattle.std.proofs.lemmas.List.{append-nil, drop_all, length-append, length-drop, length-take-le, take_at, take-take}
 use Rattle.std.specs.List.{filter, AllByRecursion}
-use Rattle.std.proofs.lemmas.Bool.{ltb-true, ltb-false, leb-false, le-leb, lt-leb, and_parts, and_right, and_left, false≢true, true≢false, ne_eqb, le-ltb}
+use Rattle.std.proofs.lemmas.Bool.{cases_lt, ltb-true, ltb-false, leb-false, le-leb, lt-leb, and_parts, and_right, and_left, false≢true, true≢false, ne_eqb, le-ltb}
 use Rattle.tf_journal.specs.Filter.{is_within}
 use Rattle.tf_scan.specs.declared.direction.Direction.{Direction}
 use Rattle.tf_scan.specs.declared.direction.Direction.TheVariants.{Rising, Falling}
@@ -272,3 +272,15 @@ read-more d w count full part read more old new whole few joined p e m =
 pub read-next : (d : Direction) (w : Window) (last count full asked : ℕ) (part read more old new whole : List ℕ) → AreRead d w last full read old whole → asked ≡ w.most - length read → IsPart d w asked count part old new → full ≡ length part → more ≡ read ++ take count part → AreRead d w count full more new whole
 read-next d w last count full asked part read more old new whole r few p e m =
     read-more d w count full part read more old new whole r.few r.joined (subst (λ (i : ℕ). IsPart d w i count part old new) few p) e m
+
+-- a part that has room for all that are asked for has the first timestamps in a window
+pub whole-part : (d : Direction) (w : Window) (count : ℕ) (part was left whole : List ℕ) → IsPart d w w.most count part was left → w.most ≤ length part → all_within w was ≡ all_within w whole → take count part ≡ first_within w whole
+whole-part d w count part was left whole p room same =
+    sym (append-nil (take count part))
+    ∙ ap (λ (ts : List ℕ). take count part ++ ts) (sym (rest (cases_lt count (length part))))
+    ∙ p.joined
+    ∙ ap (take w.most) same
+  where
+    rest : (count < length part) ⊎ (length part ≤ count) → take (w.most - count) (all_within w left) ≡ []
+    rest (inl l) = p.ends l
+    rest (inr l) = let none : w.most - count ≡ 0 = omega arith in ap (λ n. take n (all_within w left)) none

@@ -8,5 +8,6 @@ pub mod Reading
 pub mod Residual
 pub mod Version
 pub mod Finder
+pub mod Gapped
 pub mod History
 pub mod Walk

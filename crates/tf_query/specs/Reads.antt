@@ -1,11 +1,13 @@
 -- What a manifest's tables have at the timestamp of a record.
-use Rattle.std.specs.Prelude.{ℕ, ◌==◌, ◌||◌, Bool, is_some, replicate, Option, Some, None}
-use Rattle.std.specs.Option.{option_and_then, option_map}
+use Rattle.std.specs.Prelude.{ℕ, List, ◌==◌, ◌||◌, Bool, is_some, replicate, Option, Some, None}
+use Rattle.std.specs.Option.{option_and_then, option_flatten, option_map}
 use Rattle.tf_records.specs.declared.account.Account.{Account}
 use Rattle.tf_records.specs.declared.account_balance.AccountBalance.{AccountBalance}
 use Rattle.tf_records.specs.declared.sums.Sums.{Sums}
 use Rattle.tf_records.specs.declared.transfer.Transfer.{Transfer}
 use Rattle.tf_journal.specs.Lookup.{with_state}
+use Rattle.tf_table.specs.declared.key.Key.{Key}
+use Rattle.tf_table.specs.Content.{entry_of}
 use Rattle.tf_manifest.specs.declared.kind.Kind.TheVariants as kind
 use Rattle.tf_manifest.specs.declared.kind.StampRow.TheVariants as stamp
 use Rattle.tf_manifest.specs.declared.kind.UnitRow.{UnitRow}
@@ -13,7 +15,7 @@ use Rattle.tf_manifest.specs.declared.kinds.Stored.{Stored}
 use Rattle.tf_manifest.specs.declared.value.IdStamp.{IdStamp}
 use Rattle.tf_manifest.specs.declared.value.IdStamp.TheVariants as id_stamp
 use Rattle.tf_manifest.specs.declared.value.State.{State}
-use Rattle.tf_manifest.specs.Row.{content_at}
+use Rattle.tf_manifest.specs.Row.{content_at, lists_of}
 use Rattle.tf_manifest.specs.Rows.{key_of}
 use Rattle.tf_manifest.specs.View.{View, tables_by}
 
@@ -53,6 +55,14 @@ account_stamp_in view id = content_at (key_of id 0) (tables_by view (kind.Stamp 
 abbrev pub stored_stamp : IdStamp → Option ℕ
 stored_stamp (id_stamp.Stored timestamp) = Some timestamp
 stored_stamp (id_stamp.Failed timestamp) = None
+
+-- the rows of each table of ids of transfers
+abbrev pub id_lists : View → List (List (Key × Option IdStamp))
+id_lists view = lists_of (tables_by view kind.Id)
+
+-- the timestamp of the transfer with this id, by tables of ids
+abbrev pub stamp_by : List (List (Key × Option IdStamp)) → ℕ → Option ℕ
+stamp_by lists id = option_and_then stored_stamp (option_flatten (entry_of (key_of id 0) lists))
 
 -- the timestamp of the transfer with this id
 abbrev pub transfer_stamp_in : View → ℕ → Option ℕ

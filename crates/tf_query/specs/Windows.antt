@@ -1,6 +1,6 @@
 -- How many timestamps a filter asks for, from when to when, and in which direction.
-use Rattle.std.specs.Prelude.{◌≡◌, ℕ, min, Bool, List, take}
-use Rattle.std.specs.List.{filter as keep}
+use Rattle.std.specs.Prelude.{◌≡◌, ℕ, min, Bool, List, Option, take}
+use Rattle.std.specs.List.{filter as keep, filter_map}
 use Rattle.tf_journal.specs.Answer.{answer_max}
 use Rattle.tf_journal.specs.Filter.{is_within}
 use Rattle.tf_journal.specs.Flags.{has_flag}
@@ -39,3 +39,9 @@ pub record AreFirst (window : Window) (accepts : ℕ → Bool) (timestamps : Lis
   pub in_order : IsInOrder window.direction left
   pub members : (t : ℕ) → is_among t left ≡ accepts t
   pub first : timestamps ≡ first_within window left
+
+-- rows are what is read at timestamps that are the first in a window of those that a test accepts
+pub record AreOfFirst {T : Type 0} (read : ℕ → Option T) (window : Window) (accepts : ℕ → Bool) (rows : List T) : Type 0 where
+  pub timestamps : List ℕ
+  pub first : AreFirst window accepts timestamps
+  pub rows_are : rows ≡ filter_map read timestamps

@@ -6,8 +6,9 @@ ghost use Rattle.tf_journal.specs.Filter.{is_valid_account_filter, is_valid_quer
 ghost use Rattle.tf_journal.specs.Lawful.{IsSound};
 ghost use Rattle.tf_manifest.specs.View.{ShowsJournal};
 ghost use Rattle.tf_query.specs.Asked.{account_fields_at, account_filter_at, transfer_fields_at};
+ghost use Rattle.tf_query.specs.Reads.{transfer_in};
 ghost use Rattle.tf_query.specs.Residual.{AreFirstPassing, account_lead, account_residual, query_lead, query_residual};
-ghost use Rattle.tf_query.specs.Windows.{AreFirst, account_window, query_window};
+ghost use Rattle.tf_query.specs.Windows.{AreFirst, AreOfFirst, account_window, query_window};
 
 use crate::condition::{account_conditions, transfer_conditions};
 use crate::laws::leads_answer_filters;
@@ -17,7 +18,7 @@ use crate::reads::{accounts_at, transfers_at};
 use crate::residual::{Residual, Tested, account_lead, query_lead};
 use crate::scans::{account_scan, narrowed, object_scan};
 use crate::scans_answer_filters;
-use crate::timestamps::timestamps_within;
+use crate::timestamps::{FEW, few_within, timestamps_within};
 use crate::window::Window;
 use std::alloc::Allocator;
 use tf_journal::{is_valid_account_filter, is_valid_query_filter};
@@ -166,10 +167,61 @@ pub fn account_transfers<A: Allocator, N: Naming, B: Allocator + Copy>(
         return tested_account_transfers(alloc, manifest, filter, tested);
     }
     scans_answer_filters();
+    scanned_account_transfers(alloc, manifest, filter)
+}
+
+/// The transfers at the timestamps that a scan gives for a valid filter of an account's transfers. A few need no memory of their own.
+fn scanned_account_transfers<A: Allocator, N: Naming, B: Allocator + Copy>(
+    alloc: B,
+    manifest: &Manifest<'_, A, N>,
+    filter: &AccountFilter,
+) -> Result<Vec<Transfer, B>, Refusal>
+    requires { is_valid_account_filter filter.now ≡ true }
+    ensures ok { IfOk result (λ rows. AreOfFirst (transfer_in manifest.now) (account_window filter.now) (account_filter_at manifest.now filter.now) rows.items) }
+    ensures room { IfOk result (λ rows. vec_capacity rows ≤ min filter.now.limit answer_max) }
+    ensures refusal { IfErr result (λ refusal. refusal ≡ Refusal.NoMemory) }
+{
+    if filter.limit <= FEW {
+        few_account_transfers(alloc, manifest, filter)
+    } else {
+        many_account_transfers(alloc, manifest, filter)
+    }
+}
+
+/// The transfers that a valid filter of an account's transfers asks for, at timestamps for which room is made.
+fn many_account_transfers<A: Allocator, N: Naming, B: Allocator + Copy>(
+    alloc: B,
+    manifest: &Manifest<'_, A, N>,
+    filter: &AccountFilter,
+) -> Result<Vec<Transfer, B>, Refusal>
+    requires { is_valid_account_filter filter.now ≡ true }
+    ensures ok { IfOk result (λ rows. AreOfFirst (transfer_in manifest.now) (account_window filter.now) (account_filter_at manifest.now filter.now) rows.items) }
+    ensures room { IfOk result (λ rows. vec_capacity rows ≤ min filter.now.limit answer_max) }
+    ensures refusal { IfErr result (λ refusal. refusal ≡ Refusal.NoMemory) }
+{
     match account_timestamps(alloc, manifest, filter) {
         Ok(timestamps) => transfers_at(alloc, manifest, timestamps.as_slice()),
         Err(refusal) => Err(refusal),
     }
+}
+
+/// The same for a filter that asks for a few at most: no room is made for their timestamps.
+fn few_account_transfers<A: Allocator, N: Naming, B: Allocator + Copy>(
+    alloc: B,
+    manifest: &Manifest<'_, A, N>,
+    filter: &AccountFilter,
+) -> Result<Vec<Transfer, B>, Refusal>
+    requires valid { is_valid_account_filter filter.now ≡ true }
+    requires few { filter.now.limit ≤ 32 }
+    ensures ok { IfOk result (λ rows. AreOfFirst (transfer_in manifest.now) (account_window filter.now) (account_filter_at manifest.now filter.now) rows.items) }
+    ensures room { IfOk result (λ rows. vec_capacity rows ≤ min filter.now.limit answer_max) }
+    ensures refusal { IfErr result (λ refusal. refusal ≡ Refusal.NoMemory) }
+{
+    let window = Window::of_account_filter(filter);
+    let scan = account_scan(alloc, manifest, window.direction, filter)?;
+    let mut part = [0; FEW as usize];
+    let count = few_within(scan, &window, &mut part);
+    transfers_at(alloc, manifest, &part[..count])
 }
 
 /// The transfers that a filter asks for, in any journal that the manifest shows.

@@ -11,6 +11,7 @@ mod balances;
 mod condition;
 mod filters;
 mod finder;
+mod gapped;
 mod history;
 mod laws;
 mod leading;

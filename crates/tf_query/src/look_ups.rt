@@ -1,13 +1,14 @@
 //! Look-ups of ids, read from a manifest that shows a journal.
-ghost use Rattle.std.specs.Prelude.{◌≡◌, ◌≤◌, List, Err, Ok, filter_map, length, map, take, vec_capacity, IfErr, IfOk, MatchOption};
+ghost use Rattle.std.specs.Prelude.{◌≡◌, ◌≤◌, List, Err, Ok, filter_map, length, map, take, vec_capacity, IfErr, IfOk, IfSome, MatchOption};
 ghost use Rattle.std.specs.Option.{option_and_then, option_copied, option_flatten};
 ghost use Rattle.tf_journal.specs.declared.entry.Entry.{Entry};
 ghost use Rattle.tf_journal.specs.Answer.{lookup_refusal, looked_up_accounts, looked_up_transfers};
 ghost use Rattle.tf_journal.specs.Lawful.{IsSound};
 ghost use Rattle.tf_manifest.specs.View.{ShowsJournal};
-ghost use Rattle.tf_query.specs.Reads.{account_in, account_stamp_in, shown_in, stored_record, stored_stamp, transfer_in, transfer_stamp_in};
+ghost use Rattle.tf_query.specs.Reads.{account_in, account_stamp_in, id_lists, shown_in, stamp_by, stored_record, stored_stamp, transfer_in, transfer_stamp_in};
 
 use crate::at_once::{entries_at_stamps, entries_of_values};
+use crate::gapped::{GappedTable, entry_in_gapped, gapped};
 use crate::reads::{AHEAD, account_at, key_of, push_found, push_records, stored_account_at};
 use crate::rows_find_ids;
 use std::alloc::Allocator;
@@ -52,16 +53,6 @@ fn stamp_of(found: Option<&Option<IdStamp>>) -> Option<u64>
     }
 }
 
-/// The timestamp of the transfer with this id.
-fn transfer_stamp<A: Allocator, N: Naming>(manifest: &Manifest<'_, A, N>, id: u128) -> Option<u64>
-    ensures { result ≡ transfer_stamp_in manifest.now id }
-{
-    match manifest.ids.row(0).find(&key_of(id, 0)) {
-        Some(IdStamp::Stored(timestamp)) => Some(*timestamp),
-        _ => None,
-    }
-}
-
 /// Whether no id is below the one before it.
 fn are_rising(ids: &[u128]) -> bool {
     let mut last = 0;
@@ -74,22 +65,7 @@ fn are_rising(ids: &[u128]) -> bool {
     true
 }
 
-/// The timestamps of the transfers with these ids, each in the place of its id, by one search after another.
-fn stamps_one_by_one<A: Allocator, N: Naming>(
-    manifest: &Manifest<'_, A, N>,
-    ids: &[u128],
-) -> [Option<u64>; AHEAD]
-    requires { length ids.now ≤ 16 }
-    ensures { take (length ids.now) result ≡ map (transfer_stamp_in manifest.now) ids.now }
-{
-    let mut stamps = [None; AHEAD];
-    for place in 0..ids.len() {
-        stamps[place] = transfer_stamp(manifest, ids[place]);
-    }
-    stamps
-}
-
-/// The same, by searches that take turns.
+/// The timestamps of the transfers with these ids, each in the place of its id, by searches that take turns.
 fn stamps_at_once<A: Allocator, N: Naming>(
     manifest: &Manifest<'_, A, N>,
     ids: &[u128],
@@ -105,21 +81,56 @@ fn stamps_at_once<A: Allocator, N: Naming>(
     stamps
 }
 
-/// The timestamps of the transfers with these ids, each in the place of its id.
-///
-/// Where ids rise a search mostly goes the way of the one before it, and reads what that one read: then they follow one another. Else
-/// they take turns.
-fn transfer_stamps<A: Allocator, N: Naming>(
-    manifest: &Manifest<'_, A, N>,
+/// Tables of ids that remember what they don't have.
+type IdTables<'r, A, B> = Vec<GappedTable<'r, IdStamp, A>, B>;
+
+/// The tables of the ids of transfers, where these ids rise and are more than are looked up at once. `NoMemory` is the only refusal.
+fn tables_of_rising<'r, A: Allocator, N: Naming, B: Allocator>(
+    alloc: B,
+    manifest: &Manifest<'r, A, N>,
+    ids: &[u128],
+) -> Result<Option<IdTables<'r, A, B>>, Refusal>
+    ensures ok { IfOk result (λ tables. IfSome tables (λ t. t.items ≡ id_lists manifest.now)) }
+    ensures refusal { IfErr result (λ refusal. refusal ≡ Refusal.NoMemory) }
+{
+    if ids.len() <= AHEAD || !are_rising(ids) {
+        return Ok(None);
+    }
+    let tables = gapped(alloc, manifest.ids.row(0).references())?;
+    Ok(Some(tables))
+}
+
+/// The timestamps of the transfers with these ids, each in the place of its id, by one look-up after another in tables of ids.
+fn stamps_one_by_one<A: Allocator>(
+    tables: &mut [GappedTable<'_, IdStamp, A>],
     ids: &[u128],
 ) -> [Option<u64>; AHEAD]
     requires { length ids.now ≤ 16 }
-    ensures { take (length ids.now) result ≡ map (transfer_stamp_in manifest.now) ids.now }
+    ensures found { take (length ids.now) result ≡ map (stamp_by tables.old) ids.now }
+    ensures same { tables.new ≡ tables.old }
 {
-    if are_rising(ids) {
-        stamps_one_by_one(manifest, ids)
-    } else {
-        stamps_at_once(manifest, ids)
+    let mut stamps = [None; AHEAD];
+    for place in 0..ids.len() {
+        stamps[place] = stamp_of(entry_in_gapped(tables, ids[place]));
+    }
+    stamps
+}
+
+/// The timestamps of the transfers with these ids, each in the place of its id: in the tables of ids, if there are any, and else by
+/// searches that take turns.
+fn transfer_stamps<A: Allocator, N: Naming, B: Allocator>(
+    manifest: &Manifest<'_, A, N>,
+    tables: &mut Option<IdTables<'_, A, B>>,
+    ids: &[u128],
+) -> [Option<u64>; AHEAD]
+    requires ids { length ids.now ≤ 16 }
+    requires tables { IfSome tables.old (λ t. t.items ≡ id_lists manifest.now) }
+    ensures found { take (length ids.now) result ≡ map (transfer_stamp_in manifest.now) ids.now }
+    ensures tables { IfSome tables.new (λ t. t.items ≡ id_lists manifest.now) }
+{
+    match tables {
+        Some(tables) => stamps_one_by_one(tables.as_mut_slice(), ids),
+        None => stamps_at_once(manifest, ids),
     }
 }
 
@@ -138,14 +149,17 @@ fn transfer_of<'r>(found: Option<&'r Option<Stored<Transfer>>>) -> Option<&'r Tr
 ///
 /// The entries of all ids are found before the first of them is read, and so it is with the transfers, so that many come from
 /// far memory at once.
-fn transfers_ahead<'r, A: Allocator, N: Naming>(
+fn transfers_ahead<'r, A: Allocator, N: Naming, B: Allocator>(
     manifest: &Manifest<'r, A, N>,
+    tables: &mut Option<IdTables<'r, A, B>>,
     ids: &[u128],
 ) -> [Option<&'r Transfer>; AHEAD]
-    requires { length ids.now ≤ 16 }
-    ensures { map option_copied (take (length ids.now) result) ≡ map (λ id. option_and_then (transfer_in manifest.now) (transfer_stamp_in manifest.now id)) ids.now }
+    requires ids { length ids.now ≤ 16 }
+    requires tables { IfSome tables.old (λ t. t.items ≡ id_lists manifest.now) }
+    ensures tables { IfSome tables.new (λ t. t.items ≡ id_lists manifest.now) }
+    ensures found { map option_copied (take (length ids.now) result) ≡ map (λ id. option_and_then (transfer_in manifest.now) (transfer_stamp_in manifest.now id)) ids.now }
 {
-    let stamps = transfer_stamps(manifest, ids);
+    let stamps = transfer_stamps(manifest, tables, ids);
     let entries = entries_at_stamps(manifest.transfers.row(0).references(), &stamps[..ids.len()]);
     let mut found = [None; AHEAD];
     for place in 0..ids.len() {
@@ -181,8 +195,8 @@ fn accounts<A: Allocator, N: Naming, B: Allocator>(
     Ok(rows)
 }
 
-/// The transfers with these ids. Room for them is made once.
-fn transfers<A: Allocator, N: Naming, B: Allocator>(
+/// The transfers with these ids. Room for them is made once, and once for tables of ids where many rise.
+fn transfers<A: Allocator, N: Naming, B: Allocator + Copy>(
     alloc: B,
     manifest: &Manifest<'_, A, N>,
     ids: &[u128],
@@ -192,10 +206,11 @@ fn transfers<A: Allocator, N: Naming, B: Allocator>(
     ensures refusal { IfErr result (λ refusal. refusal ≡ Refusal.NoMemory) }
 {
     let mut rows = Vec::with_capacity(alloc, ids.len())?;
+    let mut tables = tables_of_rising(alloc, manifest, ids)?;
     let mut rest = ids;
     while !rest.is_empty() {
         let (part, others) = rest.split_at(rest.len().min(AHEAD));
-        let found = transfers_ahead(manifest, part);
+        let found = transfers_ahead(manifest, &mut tables, part);
         push_records(&mut rows, &found[..part.len()]);
         rest = others;
     }
@@ -223,7 +238,7 @@ pub fn accounts_with_ids<A: Allocator, N: Naming, B: Allocator>(
 }
 
 /// The transfers with these ids, in any journal that the manifest shows.
-pub fn transfers_with_ids<A: Allocator, N: Naming, B: Allocator>(
+pub fn transfers_with_ids<A: Allocator, N: Naming, B: Allocator + Copy>(
     alloc: B,
     manifest: &Manifest<'_, A, N>,
     ids: &[u128],

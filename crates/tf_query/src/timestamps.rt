@@ -14,6 +14,9 @@ use tf_scan::{Direction, Leaf, Scan};
 /// How many timestamps are read off a scan at once.
 pub const PART: usize = 256;
 
+/// So many timestamps need no memory of their own: one part has them all.
+pub const FEW: u32 = 32;
+
 /// Takes out what comes before a window's first bound.
 pub fn seek_first<P: Leaf, B: Allocator>(scan: &mut Scan<P, B>, window: &Window)
     ensures direction { scan.new.direction ≡ scan.old.direction }
@@ -56,13 +59,14 @@ pub fn read_part<P: Leaf, B: Allocator>(
     scan: &mut Scan<P, B>,
     window: &Window,
     most: usize,
-    part: &mut [u64; PART],
+    part: &mut [u64],
 ) -> usize
     requires { AreFrom scan.old.direction window.now scan.old.left }
     ensures direction { scan.new.direction ≡ scan.old.direction }
     ensures part { IsPart scan.old.direction window.now most result part.new scan.old.left scan.new.left }
 {
-    let taken = scan.take_into(&mut part[..most.min(PART)]);
+    let asked = most.min(part.len());
+    let taken = scan.take_into(&mut part[..asked]);
     count_within(window, &part[..taken])
 }
 
@@ -91,4 +95,20 @@ pub fn timestamps_within<P: Leaf + Drop, B: Allocator>(
         timestamps.extend_from_slice(&part[..count])?;
     }
     Ok(timestamps)
+}
+
+/// Moves the first timestamps of a scan that lie in a window, which has only a few, to the front of `part`, and tells how many those
+/// are. It takes no memory.
+pub fn few_within<P: Leaf + Drop, B: Allocator>(
+    mut scan: Scan<P, B>,
+    window: &Window,
+    part: &mut [u64; FEW as usize],
+) -> usize
+    requires { window.now.most ≤ 32 }
+    ensures inside { result ≤ 32 }
+    ensures first { take result part.new ≡ first_within window.now scan.left }
+    ensures in_order { IsInOrder scan.direction scan.left }
+{
+    seek_first(&mut scan, window);
+    read_part(&mut scan, window, window.most, part)
 }

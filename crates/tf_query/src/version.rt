@@ -80,7 +80,8 @@ impl<'r, A: Allocator, N: Naming> Version<'r, A, N> {
     /// both sides, side by side, and seeks from one to the next that all can have. It reads them in parts of 256, none longer
     /// than what is still asked for, so that few open few tables. Memory is taken for a box of two kilobytes for each of them
     /// and two small boxes for each but the first, once for the timestamps (just as many where one part has them all, else as
-    /// many as the limit), and once for just as many rows, into which each record is copied from its table.
+    /// many as the limit; none where the limit is 32 or less), and once for just as many rows, into which each record is copied
+    /// from its table.
     ///
     /// A code of which there are no fewer timestamps than of the account, by the largest tables of their indexes, isn't read so:
     /// it is tested on the records at the other timestamps, each of which costs one look-up, whether it passes or not, and a
@@ -179,8 +180,12 @@ impl<'r, A: Allocator, N: Naming> Version<'r, A, N> {
     /// repeated id gives its row again.
     ///
     /// Refused as `lookup_accounts`. Takes two look-ups in rows for each id, and memory for as many rows as ids once.
+    ///
+    /// Where more than 16 ids rise, memory is taken once more, some 64 bytes for each table of the row of ids. Each table then
+    /// remembers between which ids it has none, so that of the ids between two that it has each costs it two comparisons, and
+    /// the next one that it has is found without a search. Other ids are searched for by 16 at a time, whose searches take turns.
     /// Restates the reference page lookup_transfers.
-    pub fn lookup_transfers<B: Allocator>(
+    pub fn lookup_transfers<B: Allocator + Copy>(
         &self,
         alloc: B,
         ids: &[u128],

@@ -120,12 +120,17 @@ pub fn any_query(dice: &mut Dice, plain: &PlainLedger<Global>) -> Query {
     }
 }
 
-/// Some ids below a number, and of them some twice, and some that nothing has.
+/// Some ids below a number, and of them some twice, and some that nothing has. Each second time they rise, and now and then they are
+/// more than are looked up at once.
 fn ids(alloc: Global, dice: &mut Dice, below: u32) -> Result<Vec<u128, Global>, Refusal> {
     let mut ids = Vec::new(alloc);
-    for _ in 0..dice.below(12) {
+    let most = dice.one_of(&[12, 12, 60]);
+    for _ in 0..dice.below(most) {
         let id = u128::from(dice.below(below));
         ids.push(dice.one_of(&[id, id, id, id, id, id, id, id, 3, u128::MAX]))?;
+    }
+    if dice.below(2) == 0 {
+        ids.sort_unstable();
     }
     Ok(ids)
 }

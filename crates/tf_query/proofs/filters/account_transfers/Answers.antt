@@ -1,32 +1,21 @@
-use Rattle.std.proofs.Common.{◌≡◌, ◌∙◌, refl, sym, ap, subst, List, IfOk}
-use Rattle.std.specs.List.{filter_map}
-use Rattle.std.specs.Prelude.{vec_capacity}
-use Rattle.tf_records.specs.declared.transfer.Transfer.{Transfer}
+use Rattle.std.proofs.Common.{◌∙◌, refl, sym}
 use Rattle.tf_query.specs.Asked.{account_filter_at}
 use Rattle.tf_query.specs.Reads.{transfer_in}
 use Rattle.tf_query.specs.Residual.{account_lead, account_residual}
 use Rattle.tf_query.specs.Windows.{account_window}
 use Rattle.tf_journal.specs.Filter.{account_search}
 use Rattle.tf_journal.specs.Journal.{transfers_of}
-use Rattle.tf_query.proofs.Asked.{answered, few-rows, nothing, tested-answer}
+use Rattle.tf_query.proofs.Asked.{nothing, of-first, tested-answer}
 use Rattle.tf_query.proofs.filters.account_transfers.Goals as goal
 
-pub returns-in-Ok-clause-ok : goal.returns-in-Ok-clause-ok
-returns-in-Ok-clause-ok g c journal sound shows =
-    let read = transfer_in c.args.manifest.now in
-    subst (λ (rows : List Transfer). IfOk c.transfers_at.result (λ v. v.items ≡ rows))
-    (ap (filter_map read) c.as_slice.ensures.value
-    ∙ answered read (account_window c.args.filter.now) (account_filter_at c.args.manifest.now c.args.filter.now) c.in-Ok.timestamps.items _ c.in-Ok.ensures.ok
-    (c.scans_answer_filters.ensures.account_transfers c.args.manifest.now journal sound shows c.args.filter.now (sym c.is_valid_account_filter.ensures ∙ c.if-not-is_valid_account_filter.false) (account_window c.args.filter.now).direction refl))
-    c.transfers_at.ensures.ok
+pub returns-clause-ok : goal.returns-clause-ok
+returns-clause-ok g c journal sound shows =
+    of-first c.scanned_account_transfers.result (λ v. v.items) (transfer_in c.args.manifest.now) (account_window c.args.filter.now) (account_filter_at c.args.manifest.now c.args.filter.now) _ c.scanned_account_transfers.ensures.ok
+    (c.scans_answer_filters.ensures.account_transfers c.args.manifest.now journal sound shows c.args.filter.now (sym c.is_valid_account_filter.ensures ∙ c.if-not-is_valid_account_filter.false) (account_window c.args.filter.now).direction refl)
 
 pub returns-then-not-is_valid_account_filter-clause-ok : goal.returns-then-not-is_valid_account_filter-clause-ok
 returns-then-not-is_valid_account_filter-clause-ok g c journal sound shows =
     c.new.ensures.items ∙ nothing (account_search c.args.filter.now) (transfers_of journal) (sym c.is_valid_account_filter.ensures ∙ c.if-not-is_valid_account_filter.true)
-
-pub returns-in-Ok-clause-room : goal.returns-in-Ok-clause-room
-returns-in-Ok-clause-room g c =
-    few-rows c.transfers_at.result (λ rows. vec_capacity rows) (account_window c.args.filter.now) (account_filter_at c.args.manifest.now c.args.filter.now) c.in-Ok.timestamps.items _ c.as_slice.ensures.value c.in-Ok.ensures.ok c.transfers_at.ensures.room
 
 pub returns-then-tested-clause-ok : goal.returns-then-tested-clause-ok
 returns-then-tested-clause-ok g c journal sound shows =

@@ -1,4 +1,4 @@
-use Rattle.std.proofs.Common.{◌≡◌, ◌∙◌, None, ap, arith, map, get_or}
+use Rattle.std.proofs.Common.{◌∙◌, None, ap, arith, map, get_or}
 use Rattle.std.specs.Option.{option_and_then, option_copied, option_flatten}
 use Rattle.std.proofs.lemmas.List.{length-set}
 use Rattle.tf_table.specs.Content.{entry_of}

@@ -24,8 +24,8 @@ loop-place-preserved g c =
     let ids = c.args.ids.now in
     let lists = lists_of (map shown_of c.references.result.now) in
     let part = take (length ids) c.transfer_stamps-stamps.result in
-    let stamp : get_or part c.loop-place.place None ≡ transfer_stamp_in c.args.manifest.now (get_or ids c.loop-place.place 0) = ap (λ ss. get_or ss c.loop-place.place None) c.transfer_stamps-stamps.ensures ∙ get_or-map (transfer_stamp_in c.args.manifest.now) ids c.loop-place.place 0 None (omega arith) in
-    let found = given-ahead option_copied (option_and_then (λ t. entry_of (key_of 0 t) lists)) c.entries_at_stamps-entries.result part c.loop-place.place None None (omega (arith, ap length c.transfer_stamps-stamps.ensures, length-map ids (transfer_stamp_in c.args.manifest.now))) c.entries_at_stamps-entries.ensures in
+    let stamp : get_or part c.loop-place.place None ≡ transfer_stamp_in c.args.manifest.now (get_or ids c.loop-place.place 0) = ap (λ ss. get_or ss c.loop-place.place None) c.transfer_stamps-stamps.ensures.found ∙ get_or-map (transfer_stamp_in c.args.manifest.now) ids c.loop-place.place 0 None (omega arith) in
+    let found = given-ahead option_copied (option_and_then (λ t. entry_of (key_of 0 t) lists)) c.entries_at_stamps-entries.result part c.loop-place.place None None (omega (arith, ap length c.transfer_stamps-stamps.ensures.found, length-map ids (transfer_stamp_in c.args.manifest.now))) c.entries_at_stamps-entries.ensures in
     let transfer = c.transfer_of.ensures
     ∙ ap (λ e. stored_record (option_flatten e)) found
     ∙ stored_at lists (get_or part c.loop-place.place None)
