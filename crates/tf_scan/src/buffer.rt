@@ -42,7 +42,7 @@ impl Buffer {
             timestamps: [0; ROOM],
             from: 0,
             to: 0,
-            asked: ROOM,
+            asked: ROOM / 2,
         }
     }
 

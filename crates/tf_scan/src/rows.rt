@@ -10,7 +10,7 @@ use std::alloc::Allocator;
 use tf_table::{Cursor, Key, Row};
 
 /// The timestamp of the row that comes first, None where there is no row.
-#[inline]
+#[inline(always)]
 pub(crate) fn first_timestamp<V, A: Allocator>(
     direction: Direction,
     rows: &Cursor<'_, V, A>,
