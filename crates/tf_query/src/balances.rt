@@ -65,12 +65,13 @@ fn push_balance<B: Allocator>(
 /// the only refusal.
 ///
 /// Where the timestamps come in this direction, each that stands in one table with the one before it costs no more than a
-/// look at the next row.
+/// look at the next row. The first of them in a table costs a few where the account's rows are expected at the right place.
 pub fn balances_at<A: Allocator, N: Naming, B: Allocator>(
     alloc: B,
     manifest: &Manifest<'_, A, N>,
     account_id: u128,
     direction: Direction,
+    expected: &[usize],
     timestamps: &[u64],
 ) -> Result<Vec<AccountBalance, B>, Refusal>
     ensures ok { IfOk result (λ rows. rows.items ≡ filter_map (balance_in manifest.now account_id) timestamps.now) }
@@ -78,7 +79,7 @@ pub fn balances_at<A: Allocator, N: Naming, B: Allocator>(
     ensures refusal { IfErr result (λ refusal. refusal ≡ Refusal.NoMemory) }
 {
     let mut rows = Vec::with_capacity(alloc, timestamps.len())?;
-    let mut sums = Walk::new(manifest.sums.row(0), direction);
+    let mut sums = Walk::new(manifest.sums.row(0), direction, expected);
     for timestamp in timestamps {
         let found = found_sums(&mut sums, account_id, *timestamp);
         push_balance(&mut rows, *timestamp, found);

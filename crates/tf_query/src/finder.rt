@@ -11,6 +11,7 @@ use crate::reads::key_of;
 use std::alloc::Allocator;
 use std::marker::Model;
 use tf_manifest::{Naming, RowValue, TableRef, Tables};
+use tf_scan::{ANYWHERE, expected_in};
 use tf_table::{Key, Sealed, Span};
 
 /// A part of time, with both ends. There is none where the first comes after the last.
@@ -154,7 +155,7 @@ impl<'t, 'r, V: RowValue, A: Allocator, N: Naming> Finder<'t, 'r, V, A, N> {
         ensures found { option_copied result ≡ content_at key.now self.old }
         ensures same { self.new ≡ self.old }
     {
-        let (place, part, entry) = newest(self.references, key)?;
+        let (place, part, entry) = newest(self.references, key, &[])?;
         let (from, entries) = dated_entries(self.references, place);
         self.place = place;
         self.part = part;
@@ -181,32 +182,39 @@ fn dated_entries<'r, V: RowValue, A: Allocator, N: Naming>(
     }
 }
 
-/// The entry of a key in a table. Most tables that don't have it are passed over without a call.
+/// The entry of a key in a table, where the key may be expected at a place. Most tables that don't have it are passed over without
+/// a call.
 #[inline]
 fn find_in<'r, V: RowValue, A: Allocator>(
     table: &'r Sealed<V, A>,
     key: &Key,
+    expected: usize,
 ) -> Option<Option<&'r V>>
     ensures { option_map option_copied result ≡ entry_at key.now table.now }
 {
     if !table.may_have(key) {
         return None;
     }
-    table.find(key)
+    if expected == ANYWHERE {
+        return table.find(key);
+    }
+    let entry = table.entry_near(key, expected)?;
+    Some(entry.as_ref())
 }
 
 /// The place of the newest table that has a key, the part of time around the key in which no newer one has anything, and the
-/// key's entry.
+/// key's entry. The key may be expected at places in the first tables.
 pub fn newest<'r, V: RowValue, A: Allocator, N: Naming>(
     references: &[TableRef<'r, V, A, N>],
     key: &Key,
+    expected: &[usize],
 ) -> Option<(usize, Part, Option<&'r V>)>
     ensures { MatchOption result (entry_of key.now (lists_of (map shown_of references.now)) ≡ None) (λ found. IsNewest key.now (lists_of (map shown_of references.now)) found.0 found.1 (option_copied found.2)) }
 {
     let mut part = Part::all();
     for place in 0..references.len() {
         let table = references[place].table().table();
-        if let Some(entry) = find_in(table, key) {
+        if let Some(entry) = find_in(table, key, expected_in(expected, place)) {
             return Some((place, part, entry));
         }
         part = part.beside(table.span(), key.timestamp);

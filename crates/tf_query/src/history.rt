@@ -20,7 +20,7 @@ use std::alloc::Allocator;
 use tf_journal::{has_flag, is_valid_account_filter};
 use tf_manifest::{Manifest, Naming};
 use tf_records::{Account, AccountBalance, AccountFilter, Refusal};
-use tf_scan::{Prefix, Scan};
+use tf_scan::{ANYWHERE, Prefix, Scan, expected_places};
 
 /// Whether the account with this id is stored with history, in any journal that the manifest shows.
 fn has_history<A: Allocator, N: Naming>(manifest: &Manifest<'_, A, N>, id: u128) -> bool
@@ -42,18 +42,37 @@ fn asks_whole_account(filter: &AccountFilter) -> bool
         && asks_no_field(filter)
 }
 
+/// So few timestamps mostly need one or two of the tables.
+const FEW: usize = 32;
+
+/// Where the sums of a filter's account are expected in the tables of their row.
+///
+/// Where more than a few are asked for, the tables are searched together. Else nothing is searched, and they are expected anywhere.
+fn expected_sums<A: Allocator, N: Naming>(
+    manifest: &Manifest<'_, A, N>,
+    filter: &AccountFilter,
+) -> [usize; 64] {
+    if Window::of_account_filter(filter).most > FEW {
+        expected_places(manifest.sums.row(0), filter.account_id)
+    } else {
+        [ANYWHERE; 64]
+    }
+}
+
 /// The first timestamps in a filter's window, in its direction, at which the row of sums has something of its account. They
-/// are read off that row alone.
+/// are read off that row alone, where the account's rows may be expected at places.
 fn summed_timestamps<A: Allocator, N: Naming, B: Allocator + Copy>(
     alloc: B,
     manifest: &Manifest<'_, A, N>,
     filter: &AccountFilter,
+    expected: &[usize],
 ) -> Result<Vec<u64, B>, Refusal>
     ensures ok { IfOk result (λ timestamps. AreFirst (account_window filter.now) (has_sums manifest.now filter.now.account_id) timestamps.items) }
     ensures refusal { IfErr result (λ refusal. refusal ≡ Refusal.NoMemory) }
 {
     let window = Window::of_account_filter(filter);
-    let sums = Prefix::new(manifest.sums.row(0), filter.account_id, window.direction);
+    let tables = manifest.sums.row(0);
+    let sums = Prefix::expecting(tables, filter.account_id, window.direction, expected);
     timestamps_within(alloc, Scan::leaf(alloc, sums)?, &window)
 }
 
@@ -62,13 +81,14 @@ fn history_timestamps<A: Allocator, N: Naming, B: Allocator + Copy>(
     alloc: B,
     manifest: &Manifest<'_, A, N>,
     filter: &AccountFilter,
+    expected: &[usize],
 ) -> Result<Vec<u64, B>, Refusal>
     requires { is_valid_account_filter filter.now ≡ true }
     ensures ok { IfOk result (λ timestamps. AreFirst (account_window filter.now) (history_at manifest.now filter.now) timestamps.items) }
     ensures refusal { IfErr result (λ refusal. refusal ≡ Refusal.NoMemory) }
 {
     if asks_whole_account(filter) {
-        summed_timestamps(alloc, manifest, filter)
+        summed_timestamps(alloc, manifest, filter, expected)
     } else {
         account_timestamps(alloc, manifest, filter)
     }
@@ -93,12 +113,14 @@ pub fn account_history<A: Allocator, N: Naming, B: Allocator + Copy>(
     }
     sums_date_history();
     scans_answer_filters();
-    match history_timestamps(alloc, manifest, filter) {
+    let expected = expected_sums(manifest, filter);
+    match history_timestamps(alloc, manifest, filter, &expected) {
         Ok(timestamps) => balances_at(
             alloc,
             manifest,
             filter.account_id,
             Window::of_account_filter(filter).direction,
+            &expected,
             timestamps.as_slice(),
         ),
         Err(refusal) => Err(refusal),

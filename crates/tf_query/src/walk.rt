@@ -4,14 +4,15 @@ ghost use Rattle.std.specs.Option.{option_copied};
 ghost use Rattle.tf_table.specs.declared.key.Key.{Key};
 ghost use Rattle.tf_table.specs.Content.{entry_of};
 ghost use Rattle.tf_manifest.specs.Row.{content_at, lists_of};
+ghost use Rattle.tf_scan.specs.Place.{rows_behind};
 ghost use Rattle.tf_query.specs.Walk.{AreComing, AreTableRows};
 
 use crate::finder::{Part, newest};
 use std::alloc::Allocator;
 use std::marker::Model;
 use tf_manifest::{Naming, RowValue, TableRef, Tables};
-use tf_scan::Direction;
-use tf_table::{Column, Key, Sealed};
+use tf_scan::{ANYWHERE, Direction, expected_in};
+use tf_table::{Column, Cursor, Key, Sealed};
 
 /// Rows of a table that are still to come, whose entries differ, and a part of time in which no newer table has anything.
 #[derive(Drop)]
@@ -22,21 +23,19 @@ struct Coming<'r, V> {
 }
 
 impl<'r, V> Coming<'r, V> {
-    /// The rows of a table behind a key, in a direction, if they have an entry each.
+    /// The rows of a table behind a key, in a direction, if they have an entry each. The key may be expected at a place.
     fn behind<A: Allocator>(
         direction: Direction,
         part: Part,
         table: &'r Sealed<V, A>,
         key: &Key,
+        expected: usize,
     ) -> Option<Coming<'r, V>>
         ensures { IfSome result (λ coming. (coming.part ≡ part) × AreTableRows table.now coming.keys.now coming.entries.now) }
     {
         // The length tells the proof that no key comes twice.
         let _length = table.len();
-        let rows = match direction {
-            Direction::Rising => table.seek(key),
-            Direction::Falling => table.seek_back(key),
-        };
+        let rows = rows_from(direction, table, key, expected);
         let (own_keys, column) = rows.runs();
         let Column::Each(own_entries) = column else {
             return None;
@@ -71,6 +70,24 @@ impl<'r, V> Coming<'r, V> {
     }
 }
 
+/// The rows of a table from a key on, in a direction. The key may be expected at a place.
+#[inline]
+fn rows_from<'r, V, A: Allocator>(
+    direction: Direction,
+    table: &'r Sealed<V, A>,
+    key: &Key,
+    expected: usize,
+) -> Cursor<'r, V, A>
+    ensures { result ≡ rows_behind direction key.now table.now }
+{
+    match direction {
+        Direction::Rising if expected == ANYWHERE => table.seek(key),
+        Direction::Rising => table.seek_near(key, expected),
+        Direction::Falling if expected == ANYWHERE => table.seek_back(key),
+        Direction::Falling => table.seek_back_near(key, expected),
+    }
+}
+
 /// Looks keys up in the tables of a row whose rows follow one another in a direction, as do those of one value and of the
 /// timestamps that a scan gives.
 ///
@@ -81,6 +98,8 @@ impl<'r, V> Coming<'r, V> {
 pub struct Walk<'t, 'r, V: RowValue, A: Allocator, N: Naming> {
     references: &'t [TableRef<'r, V, A, N>],
     direction: Direction,
+    /// Where the first of the keys are expected in the first tables.
+    expected: &'t [usize],
     coming: Option<Coming<'r, V>>,
 }
 
@@ -100,13 +119,18 @@ impl<'t, 'r, V: RowValue, A: Allocator, N: Naming> Model for Walk<'t, 'r, V, A, 
 }
 
 impl<'t, 'r, V: RowValue, A: Allocator, N: Naming> Walk<'t, 'r, V, A, N> {
-    /// In the tables of a row. It takes no memory.
-    pub fn new(tables: &'t Tables<'r, V, A, N>, direction: Direction) -> Walk<'t, 'r, V, A, N>
+    /// In the tables of a row, where the first of the keys may be expected at places in the first tables. It takes no memory.
+    pub fn new(
+        tables: &'t Tables<'r, V, A, N>,
+        direction: Direction,
+        expected: &'t [usize],
+    ) -> Walk<'t, 'r, V, A, N>
         ensures { result ≡ tables.now }
     {
         Walk {
             references: tables.references(),
             direction,
+            expected,
             coming: None,
         }
     }
@@ -140,10 +164,11 @@ impl<'t, 'r, V: RowValue, A: Allocator, N: Naming> Walk<'t, 'r, V, A, N> {
         ensures found { option_copied result ≡ content_at key.now self.old }
         ensures same { self.new ≡ self.old }
     {
-        let (place, part, entry) = newest(self.references, key)?;
+        let (place, part, entry) = newest(self.references, key, self.expected)?;
         if place < self.references.len() {
             let table = self.references[place].table().table();
-            let coming = Coming::behind(self.direction, part, table, key);
+            let expected = expected_in(self.expected, place);
+            let coming = Coming::behind(self.direction, part, table, key, expected);
             self.coming = coming;
         }
         entry

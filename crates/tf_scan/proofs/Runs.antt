@@ -69,22 +69,22 @@ module _ {V A : Type 0} (d : Direction) (until : Option ℕ) where
 
 module _ {V A : Type 0} (d : Direction) (v : ℕ) (until : Option ℕ) (row : Key × Option V) (new : Place V A) where
   step-takes : (p : Place V A) → IsPlace d v p → IsStep d until row p new → Takes d v row.0.timestamp p new
-  step-takes (Closed table bound) h e = absurd e
+  step-takes (Closed table bound _) h e = absurd e
   step-takes End h e = absurd e
   step-takes (Open rows) h e = subst (Takes d v row.0.timestamp (Open rows)) (sym e.1) (row-takes d v row rows e.0 row.0.timestamp h e.2 refl)
 
   step-past : (p : Place V A) → IsStep d until row p new → is_past d row.0.timestamp until ≡ true
-  step-past (Closed table bound) e = absurd e
+  step-past (Closed table bound _) e = absurd e
   step-past End e = absurd e
   step-past (Open rows) e = e.3
 
   step-nearest : (p : Place V A) → IsStep d until row p new → nearest_in d p ≡ Some row.0.timestamp
-  step-nearest (Closed table bound) e = absurd e
+  step-nearest (Closed table bound _) e = absurd e
   step-nearest End e = absurd e
   step-nearest (Open rows) e = time-taken (λ (r : Key × Option V). r.0.timestamp) d row rows e.0 e.2
 
   step-entry : (p : Place V A) → IsPlace d v p → IsStep d until row p new → entry_at (key_of v row.0.timestamp) (rows_left d v p) ≡ Some row.1
-  step-entry (Closed table bound) h e = absurd e
+  step-entry (Closed table bound _) h e = absurd e
   step-entry End h e = absurd e
   step-entry (Open rows) h e = row-entry d v row rows e.0 h e.2
 

@@ -302,25 +302,25 @@ module _ {V : Type 0} (d : Direction) (v : ℕ) where
 module _ {V A : Type 0} (d : Direction) (v : ℕ) where
   -- no row comes before the nearest timestamp
   pub place-first : (p : Place V A) → IsPlace d v p → (u : ℕ) → is_past d u (nearest_in d p) ≡ true → entry_at (key_of v u) (rows_left d v p) ≡ None
-  place-first (Closed table bound) h u b = entry-within v (span_from d bound) u table.now ∙ ap (λ c. cond c (entry_at (key_of v u) table.now) None) (outside d bound u b)
+  place-first (Closed table bound expected) h u b = entry-within v (span_from d bound) u table.now ∙ ap (λ c. cond c (entry_at (key_of v u) table.now) None) (outside d bound u b)
   place-first (Open rows) h u b = first-open d v rows h u b
   place-first End h u b = refl
 
   -- ---- a searched table
 
   pub opened-right : (p : Place V A) → IsPlace d v p → IsPlace d v (opened d v p)
-  opened-right (Closed table bound) h = is_at-within v (span_from d bound) table.now h
+  opened-right (Closed table bound expected) h = is_at-within v (span_from d bound) table.now h
   opened-right (Open rows) h = h
   opened-right End h = tt
 
   pub opened-same : (p : Place V A) → rows_left d v (opened d v p) ≡ rows_left d v p
-  opened-same (Closed table bound) = refl
+  opened-same (Closed table bound expected) = refl
   opened-same (Open rows) = refl
   opened-same End = refl
 
   -- what is taken out once the table was searched
   pub opened-takes : (old new : Place V A) (t : ℕ) → Takes d v t (opened d v old) new → Takes d v t old new
-  opened-takes (Closed table bound) new t k = record { right = k.right; others = k.others; steps = omega (arith, k.steps); fewer = λ _. omega (arith, k.steps) }
+  opened-takes (Closed table bound expected) new t k = record { right = k.right; others = k.others; steps = omega (arith, k.steps); fewer = λ _. omega (arith, k.steps) }
   opened-takes (Open rows) new t k = k
   opened-takes End new t k = k
 
@@ -328,19 +328,19 @@ module _ {V A : Type 0} (d : Direction) (v : ℕ) where
   pub opened-from : (p : Place V A) (t : ℕ) → IsPlace d v p → nearest_in d p ≡ Some t → IsFrom d t (nearest_in d (opened d v p))
   opened-from (Open rows) t h e = subst (IsFrom d t) (sym e) (before-self d t)
   opened-from End t h e = tt
-  opened-from (Closed table bound) t h e = by (rows_left {V = V} {A = A} d v (Closed table bound)) refl
+  opened-from (Closed table bound expected) t h e = by (rows_left {V = V} {A = A} d v (Closed table bound expected)) refl
     where
       same : Some bound ≡ Some t → bound ≡ t
       same i = cc
 
-      by : (rows : List (Key × Option V)) → rows ≡ rows_left {V = V} {A = A} d v (Closed table bound) → IsFrom d t (first_in d (timestamps rows))
+      by : (rows : List (Key × Option V)) → rows ≡ rows_left {V = V} {A = A} d v (Closed table bound expected) → IsFrom d t (first_in d (timestamps rows))
       by [] i = subst (IsFrom d t) (sym (first-empty d)) tt
       by (x ∷ xs) i =
           let s = first-split d x xs in
           let u = s.0.0.timestamp in
           let at : IsAt v (x ∷ xs) = subst (λ (rows : List (Key × Option V)). IsAt v rows) (sym i) (is_at-within v (span_from d bound) table.now h) in
           let there : entry_at (key_of v u) (x ∷ xs) ≡ Some s.0.1 = sym (taken-same v d s.0 (x ∷ xs) s.1 at s.2 u) ∙ entry-here v s.0 s.1 (taken-head d v s.0 (x ∷ xs) s.1 at s.2).here in
-          let none : is_before d u t ≡ true → entry_at (key_of v u) (x ∷ xs) ≡ None = λ b. ap (λ (rows : List (Key × Option V)). entry_at (key_of v u) rows) i ∙ place-first (Closed table bound) h u (subst (λ n. is_before d u n ≡ true) (sym (same e)) b) in
+          let none : is_before d u t ≡ true → entry_at (key_of v u) (x ∷ xs) ≡ None = λ b. ap (λ (rows : List (Key × Option V)). entry_at (key_of v u) rows) i ∙ place-first (Closed table bound expected) h u (subst (λ n. is_before d u n ≡ true) (sym (same e)) b) in
           subst (IsFrom d t) (sym (time-taken (λ (r : Key × Option V). r.0.timestamp) d s.0 (x ∷ xs) s.1 s.2))
           (bool_cases (is_before d u t) (λ b. absurd (let k : Some s.0.1 ≡ None = sym there ∙ none b in cc)) (λ b. b))
 
@@ -406,8 +406,8 @@ module _ {V A : Type 0} (d : Direction) (v : ℕ) where
 
   -- ---- a seek
 
-  module _ (table : Bor (List (Key × Option V))) (bound t : ℕ) where
-    pub seek-closed : IsRising key_cmp table.now → is_before d bound t ≡ true → Seeks {V = V} {A = A} d v t (Closed table bound) (Closed table t)
+  module _ (table : Bor (List (Key × Option V))) (bound expected t : ℕ) where
+    pub seek-closed : IsRising key_cmp table.now → is_before d bound t ≡ true → Seeks {V = V} {A = A} d v t (Closed table bound expected) (Closed table t expected)
     seek-closed h b =
         record {
           right = h;
@@ -417,15 +417,15 @@ module _ {V A : Type 0} (d : Direction) (v : ℕ) where
               ∙ ap (λ e. cond (not (is_before d u t)) e None) (sym (entry-within v (span_from d bound) u table.now));
         }
 
-    pub seek-stays : IsRising key_cmp table.now → is_before d bound t ≡ false → Seeks {V = V} {A = A} d v t (Closed table bound) (Closed table bound)
+    pub seek-stays : IsRising key_cmp table.now → is_before d bound t ≡ false → Seeks {V = V} {A = A} d v t (Closed table bound expected) (Closed table bound expected)
     seek-stays h n =
         record {
           right = h;
-          others = keeps-none v (λ u. not (is_before d u t)) (rows_left {V = V} {A = A} d v (Closed table bound)) (rows_left {V = V} {A = A} d v (Closed table bound)) (λ u. refl)
-              (λ u e. place-first (Closed table bound) h u (before-past d u bound t (not-false (is_before d u t) e) n));
+          others = keeps-none v (λ u. not (is_before d u t)) (rows_left {V = V} {A = A} d v (Closed table bound expected)) (rows_left {V = V} {A = A} d v (Closed table bound expected)) (λ u. refl)
+              (λ u e. place-first (Closed table bound expected) h u (before-past d u bound t (not-false (is_before d u t) e) n));
         }
 
-    pub seek-ends : ((w u : ℕ) → is_before d u t ≡ false → entry_at (key_of w u) table.now ≡ None) → Seeks {V = V} {A = A} d v t (Closed table bound) End
+    pub seek-ends : ((w u : ℕ) → is_before d u t ≡ false → entry_at (key_of w u) table.now ≡ None) → Seeks {V = V} {A = A} d v t (Closed table bound expected) End
     seek-ends n = record { right = tt; others = λ u. step u (is_before d u t) refl }
       where
         either : (b : Bool) (x : Option (Option V)) → x ≡ None → cond b x None ≡ None

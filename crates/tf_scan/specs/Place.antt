@@ -25,7 +25,7 @@ span_from Falling t = record { earliest = 0; latest = t }
 
 -- the rows that are still to come
 abbrev pub rows_left : {V A : Type 0} → Direction → ℕ → Place V A → List (Key × Option V)
-rows_left d value (Closed table bound) = rows_within value (span_from d bound) table.now
+rows_left d value (Closed table bound _) = rows_within value (span_from d bound) table.now
 rows_left d value (Open rows) = rows
 rows_left d value End = []
 
@@ -51,7 +51,7 @@ first_in Falling ts = last_in ts
 
 -- a timestamp before which no row comes, None at the end
 abbrev pub nearest_in : {V A : Type 0} → Direction → Place V A → Option ℕ
-nearest_in d (Closed table bound) = Some bound
+nearest_in d (Closed table bound _) = Some bound
 nearest_in d (Open rows) = first_in d (timestamps rows)
 nearest_in d End = None
 
@@ -87,7 +87,7 @@ pub record IsAt {E : Type 0} (value : ℕ) (rows : List (Key × E)) : Type 0 whe
 
 -- what always holds of a place
 abbrev pub IsPlace : {V A : Type 0} → Direction → ℕ → Place V A → Type 0
-IsPlace d value (Closed table bound) = IsRising key_cmp table.now
+IsPlace d value (Closed table bound _) = IsRising key_cmp table.now
 IsPlace d value (Open rows) = IsAt value rows
 IsPlace d value End = Unit {0}
 
@@ -107,13 +107,13 @@ Keeps value stays old new = (t : ℕ) → entry_at (key_of value t) new ≡ (if 
 
 -- how many steps are left at most
 abbrev pub steps_left : {V A : Type 0} → Direction → ℕ → Place V A → ℕ
-steps_left d value (Closed table bound) = suc (length (rows_within value (span_from d bound) table.now))
+steps_left d value (Closed table bound _) = suc (length (rows_within value (span_from d bound) table.now))
 steps_left d value (Open rows) = length rows
 steps_left d value End = 0
 
 -- the same once the table was searched
 abbrev pub opened : {V A : Type 0} → Direction → ℕ → Place V A → Place V A
-opened d value (Closed table bound) = Open (rows_within value (span_from d bound) table.now)
+opened d value (Closed table bound _) = Open (rows_within value (span_from d bound) table.now)
 opened d value (Open rows) = Open rows
 opened d value End = End
 

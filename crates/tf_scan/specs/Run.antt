@@ -15,7 +15,7 @@ use Rattle.tf_scan.specs.Prefix.{prefix_of}
 
 -- the next row was taken out of a searched table, which is this one and comes before the timestamp, if there is one
 abbrev pub IsStep : {V A : Type 0} → Direction → Option ℕ → Key × Option V → Place V A → Place V A → Type 0
-IsStep d until row (Closed table bound) new = ⊥
+IsStep d until row (Closed table bound _) new = ⊥
 IsStep {V} d until row (Open rows) new = (others : List (Key × Option V)) × (new ≡ Open others) × IsTaken d row rows others × (is_past d row.0.timestamp until ≡ true)
 IsStep d until row End new = ⊥
 

@@ -4,6 +4,7 @@
 mod buffer;
 mod buffered;
 mod direction;
+mod expected;
 mod head;
 mod leaf;
 mod node;
@@ -20,6 +21,7 @@ mod tests;
 mod turn;
 
 pub use direction::Direction;
+pub use expected::{ANYWHERE, expected_in, expected_places};
 pub use leaf::Leaf;
 pub use posting_list::PostingList;
 pub use prefix::Prefix;

@@ -1,7 +1,9 @@
 //! What is left of one table in a prefix.
 ghost use Rattle.std.specs.Prelude.{◌≡◌, ◌≤◌, ℕ, true, false, length, None, IsTrue};
 ghost use Rattle.std.specs.Option.{option_copied, option_map};
+ghost use Rattle.tf_btree.specs.Rows.{rows_from, rows_upto};
 ghost use Rattle.tf_table.specs.Content.{entry_at};
+ghost use Rattle.tf_table.specs.Key.{key_cmp};
 ghost use Rattle.tf_manifest.specs.Rows.{key_of};
 ghost use Rattle.tf_scan.specs.declared.place.Place.TheVariants.{End};
 ghost use Rattle.tf_scan.specs.Order.{is_before};
@@ -9,6 +11,7 @@ ghost use Rattle.tf_scan.specs.Place.{rows_left, first_of, span_from, nearest_in
 ghost use Rattle.tf_scan.specs.Run.{WritesRun};
 
 use crate::Direction;
+use crate::expected::ANYWHERE;
 use crate::rows::{first, first_timestamp, seek};
 use crate::run::take_rows;
 use crate::turn::Turn;
@@ -18,8 +21,9 @@ use tf_table::{Cursor, Key, Sealed, Span};
 /// The rows of one table that are still to come, of one value and in one direction.
 #[derive(Drop)]
 pub(crate) enum Place<'r, V, A: Allocator> {
-    /// The table wasn't searched yet. The timestamps of the rows don't come before this one.
-    Closed(&'r Sealed<V, A>, u64),
+    /// The table wasn't searched yet. The timestamps of the rows don't come before this one. The first of the rows of the
+    /// value is expected at a place, or `ANYWHERE`.
+    Closed(&'r Sealed<V, A>, u64, usize),
     /// The table was searched, and these are the rows.
     Open(Cursor<'r, V, A>),
     /// There is none.
@@ -35,15 +39,15 @@ impl<'r, V, A: Allocator> Default for Place<'r, V, A> {
 }
 
 impl<'r, V, A: Allocator> Place<'r, V, A> {
-    /// The rows of a table. It isn't searched yet.
-    pub(crate) fn new(direction: Direction, table: &'r Sealed<V, A>) -> Self
+    /// The rows of a table, of which the first of the value is expected at a place. It isn't searched yet.
+    pub(crate) fn new(direction: Direction, table: &'r Sealed<V, A>, expected: usize) -> Self
         ensures right { (value : ℕ) → IsPlace direction value result }
         ensures rows { (value t : ℕ) → entry_at (key_of value t) (rows_left direction value result) ≡ entry_at (key_of value t) table.now }
     {
         // `len` tells the proof that the rows rise.
         let _length = table.len();
         match table.span() {
-            Some(span) => Place::Closed(table, start(direction, span)),
+            Some(span) => Place::Closed(table, start(direction, span), expected),
             None => Place::End,
         }
     }
@@ -54,7 +58,7 @@ impl<'r, V, A: Allocator> Place<'r, V, A> {
         ensures { result ≡ nearest_in direction self.now }
     {
         match self {
-            Place::Closed(_, bound) => Some(*bound),
+            Place::Closed(_, bound, _) => Some(*bound),
             Place::Open(rows) => first_timestamp(direction, rows),
             Place::End => None,
         }
@@ -96,7 +100,7 @@ impl<'r, V, A: Allocator> Place<'r, V, A> {
         ensures { Seeks direction value timestamp self.old self.new }
     {
         match self {
-            Place::Closed(table, bound) => {
+            Place::Closed(table, bound, _expected) => {
                 if direction.is_before(*bound, timestamp) {
                     if ends_before(direction, table, timestamp) {
                         *self = Place::End;
@@ -133,7 +137,7 @@ impl<'r, V, A: Allocator> Place<'r, V, A> {
     fn open(&mut self, direction: Direction, value: u128)
         ensures { self.new ≡ opened direction value self.old }
     {
-        if let Place::Closed(table, bound) = self {
+        if let Place::Closed(table, bound, expected) = self {
             let span = span_from(direction, *bound);
             let from = Key {
                 value,
@@ -143,8 +147,26 @@ impl<'r, V, A: Allocator> Place<'r, V, A> {
                 value,
                 timestamp: span.latest,
             };
-            *self = Place::Open(table.range(&from, &to));
+            *self = Place::Open(range(table, &from, &to, *expected));
         }
+    }
+}
+
+/// The rows of a table between two keys, the first of which is expected at a place. Where that is right, no search for it
+/// waits for a fence.
+#[inline]
+fn range<'r, V, A: Allocator>(
+    table: &'r Sealed<V, A>,
+    from: &Key,
+    to: &Key,
+    expected: usize,
+) -> Cursor<'r, V, A>
+    ensures { result ≡ rows_upto key_cmp to.now (rows_from key_cmp from.now table.now) }
+{
+    if expected == ANYWHERE {
+        table.range(from, to)
+    } else {
+        table.range_near(from, to, expected)
     }
 }
 

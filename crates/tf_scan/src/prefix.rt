@@ -5,6 +5,7 @@ ghost use Rattle.tf_manifest.specs.Rows.{key_of};
 ghost use Rattle.tf_scan.specs.Order.{IsInOrder};
 ghost use Rattle.tf_scan.specs.Sets.{is_among};
 
+use crate::expected::expected_in;
 use crate::place::Place;
 use crate::turn::Turn;
 use crate::{Direction, Leaf, places};
@@ -55,9 +56,28 @@ impl<'r, V: RowValue, A: Allocator> Prefix<'r, V, A> {
         ensures in_order { IsInOrder direction result.left }
         ensures members { (t : ℕ) → is_among t result.left ≡ is_some (content_at (key_of value t) tables.now) }
     {
+        Prefix::expecting(tables, value, direction, &[])
+    }
+
+    /// The same, where the first row of the value is expected at these places in the first tables, and anywhere in the others.
+    ///
+    /// A table that is read is searched from its place on, ever further, which takes a few comparisons where the value stands
+    /// there. Where most of the tables will be read, `expected_places` tells the places of all of them.
+    pub fn expecting<N: Naming>(
+        tables: &Tables<'r, V, A, N>,
+        value: u128,
+        direction: Direction,
+        expected: &[usize],
+    ) -> Prefix<'r, V, A>
+        ensures direction { result.direction ≡ direction }
+        // What is left is the list in order of the timestamps at which the content has something.
+        ensures in_order { IsInOrder direction result.left }
+        ensures members { (t : ℕ) → is_among t result.left ≡ is_some (content_at (key_of value t) tables.now) }
+    {
         let mut places = ArrayVec::new();
         for reference in tables.references() {
-            places.push(Place::new(direction, reference.table().table()));
+            let place = expected_in(expected, places.len());
+            places.push(Place::new(direction, reference.table().table(), place));
         }
         let turn = Turn::of(direction, places.as_slice());
         Prefix {

@@ -47,6 +47,20 @@ impl<V, A: Allocator> Sealed<V, A> {
         self.rows_upto(key, self.near(key))
     }
 
+    /// The same as `seek`, by a search that begins at a place, and goes ever further from it.
+    pub fn seek_near(&self, key: &Key, place: usize) -> Cursor<'_, V, A>
+        ensures { result ≡ rows_from key_cmp key.now self.now }
+    {
+        self.rows_from(key, Start::Near(place))
+    }
+
+    /// The same as `seek_back`, by such a search.
+    pub fn seek_back_near(&self, key: &Key, place: usize) -> Cursor<'_, V, A>
+        ensures { result ≡ rows_upto key_cmp key.now self.now }
+    {
+        self.rows_upto(key, Start::Near(place))
+    }
+
     /// The rows whose keys are neither below `from` nor above `to`. It takes no memory.
     ///
     /// The number of keys that it looks at grows with the logarithm of the rows, and from the first of the range on with

@@ -1,13 +1,13 @@
 //! Searches that take turns.
 
 use crate::Key;
-use crate::fences::place_behind;
+use crate::fences::KEYS_A_FENCE;
 
 /// A search by the fences of a table for the place at which a key mostly stands, if the table has it.
 ///
-/// It goes on step by step, so that several searches take turns: each step reads one fence, and those of all searches come
-/// from memory together. Where it ends is a hint, and so is the place before the end: what is found there says what the
-/// table has. In a table without fences it ends among the first eight rows.
+/// It goes on step by step, so that several searches take turns: each step reads one fence, and in the end one of eight keys, and
+/// those of all searches come from memory together. Where it ends is a hint, and so is the place before the end: what is found
+/// there says what the table has. In a table without fences it ends among the first eight rows.
 #[derive(Clone, Copy)]
 pub struct Probe<'a> {
     keys: &'a [Key],
@@ -16,8 +16,6 @@ pub struct Probe<'a> {
     rank: u64,
     /// The fences before this one are less than the rank. In the end it is the place.
     low: usize,
-    /// So many fences from there on may be less.
-    len: usize,
 }
 
 impl<'a> Probe<'a> {
@@ -30,7 +28,6 @@ impl<'a> Probe<'a> {
             key,
             rank,
             low: 0,
-            len: fences.len(),
         }
     }
 
@@ -59,43 +56,61 @@ impl<'a> Probe<'a> {
         }
     }
 
-    /// Leaves half of the fences that may be less, without a branch on what it reads.
+    /// Whether the key at a place is less than the key that is looked for.
     #[inline]
-    fn halve(&mut self) {
-        let half = self.len / 2;
-        let middle = self.low.saturating_add(half);
-        self.low = if self.is_passed(middle) {
-            middle
-        } else {
-            self.low
-        };
-        self.len -= half;
+    fn is_key_passed(&self, place: usize) -> bool {
+        match self.keys.get(place) {
+            Some(other) => other.is_below(&self.key),
+            None => false,
+        }
     }
 
-    /// Goes from the last fence to the place among the keys behind it.
+    /// Passes a power of two of fences, if the last of them is less. What is read is shifted into the place: a choice between
+    /// two places would be a branch again, and a processor that foretells it wrongly waits for the fence.
     #[inline]
-    fn end(&mut self) {
-        let is_last_passed = self.is_passed(self.low);
-        let passed = self.low.saturating_add(usize::from(is_last_passed));
-        self.low = place_behind(passed, self.keys, &self.key);
+    fn pass_fences(&mut self, power: u32) {
+        let step = 1usize.wrapping_shl(power);
+        let last = self.low.wrapping_add(step - 1);
+        let is_passed = usize::from(self.is_passed(last));
+        self.low = self.low.wrapping_add(is_passed.wrapping_shl(power));
+    }
+
+    /// The same of keys.
+    #[inline]
+    fn pass_keys(&mut self, power: u32) {
+        let step = 1usize.wrapping_shl(power);
+        let last = self.low.wrapping_add(step - 1);
+        let is_passed = usize::from(self.is_key_passed(last));
+        self.low = self.low.wrapping_add(is_passed.wrapping_shl(power));
+    }
+
+    /// Goes from the fences that were passed to the keys behind them.
+    #[inline]
+    fn end_fences(&mut self) {
+        self.low = self.low.wrapping_mul(KEYS_A_FENCE);
     }
 }
 
 /// Has these searches take turns until each has ended.
 ///
-/// It takes as many rounds as the logarithm of the greatest number of fences. In each round no search waits for another's
-/// fence, and so it is with the keys in the end.
+/// It takes as many rounds as the logarithm of the greatest number of fences, and three more for the keys. In each round no
+/// search waits for what another reads.
 pub fn take_turns(probes: &mut [Probe<'_>]) {
     let mut most = 0;
     for probe in probes.iter() {
-        most = probe.len.max(most);
+        most = probe.fences.len().max(most);
     }
-    for _round in 0..usize::BITS - most.leading_zeros() {
+    for power in (0..usize::BITS - most.leading_zeros()).rev() {
         for probe in probes.iter_mut() {
-            probe.halve();
+            probe.pass_fences(power);
         }
     }
     for probe in probes.iter_mut() {
-        probe.end();
+        probe.end_fences();
+    }
+    for power in (0..3u32).rev() {
+        for probe in probes.iter_mut() {
+            probe.pass_keys(power);
+        }
     }
 }

@@ -291,6 +291,16 @@ impl<V, A: Allocator> Sealed<V, A> {
         (self.keys.get(behind).copied(), behind)
     }
 
+    /// Whether there is a tombstone at a place, counted from 0. It reads that entry alone.
+    #[inline]
+    pub fn is_tombstone_at(&self, place: usize) -> bool {
+        if place < self.keys.len() {
+            self.entries.entry(place).is_none()
+        } else {
+            false
+        }
+    }
+
     /// The row at a place, counted from 0.
     #[inline]
     pub(crate) fn row_at(&self, place: usize) -> Option<Row<'_, V>>

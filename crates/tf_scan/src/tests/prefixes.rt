@@ -5,7 +5,7 @@ ghost use Rattle.tf_manifest.specs.Row.{weight};
 use super::Multiples;
 use super::joins::{Joined, NEVER, Seek, assert_gives};
 use crate::place::Place;
-use crate::{Direction, Leaf, Prefix, Scan};
+use crate::{Direction, Leaf, Prefix, Scan, expected_places};
 use linked_list_allocator::LocalHeap;
 use std::alloc::Global;
 use std::marker::Brand;
@@ -217,6 +217,70 @@ fn joins_of_prefixes<N: Naming>(
 fn joins_of_prefixes_are_the_plain_filter(rt: HostRuntime) -> Result<(), Fail> {
     let registry = Registry::new(rt.alloc())?;
     joins_of_prefixes::<Brand>(&rt, &registry)
+}
+
+/// Two prefixes give the same timestamps, so many of them, or both come to their ends.
+fn assert_same(
+    rt: &impl Abort,
+    left: &mut Prefix<'_, (), Global>,
+    right: &mut Prefix<'_, (), Global>,
+    count: u64,
+) {
+    for _timestamp in 0..count {
+        assert_eq!(rt; left.next(), right.next());
+    }
+}
+
+/// A prefix that expects its rows at places gives what one does that expects them nowhere, before a seek and after it.
+fn assert_expecting<N: Naming>(
+    rt: &impl Abort,
+    tables: &Tables<'_, (), Global, N>,
+    value: u128,
+    direction: Direction,
+    to: u64,
+) {
+    let mut plain = Prefix::new(tables, value, direction);
+    let mut expecting = Prefix::expecting(
+        tables,
+        value,
+        direction,
+        &expected_places(tables, value),
+    );
+    assert_same(rt, &mut plain, &mut expecting, 100);
+    plain.seek(to);
+    expecting.seek(to);
+    assert_same(rt, &mut plain, &mut expecting, 16_000);
+}
+
+/// The same of values that the tables have, and of one that none has. Of the layouts the first has tables with fences.
+fn expecting_prefixes<N: Naming>(
+    rt: &(impl Abort + AllocGlobal + Wait),
+    registry: &Registry<(), Global>,
+    layout: Layout,
+) -> Result<(), Fail>
+    requires here { registry.now ≡ N.shelf 4 }
+{
+    let tables = row::<N, _>(rt, rt.alloc(), registry, layout)?;
+    for direction in [Direction::Rising, Direction::Falling] {
+        for value in [1, 7, value_of(LISTS[2]), value_of(LISTS[4])] {
+            for to in [0, 1_095, 5_000, u64::MAX] {
+                assert_expecting(rt, &tables, value, direction, to);
+            }
+        }
+    }
+    Ok(())
+}
+
+#[test]
+fn expected_places_change_no_timestamp(rt: HostRuntime) -> Result<(), Fail> {
+    let registry = Registry::new(rt.alloc())?;
+    expecting_prefixes::<Brand>(&rt, &registry, Layout::Spread)
+}
+
+#[test]
+fn expected_places_in_small_tables_change_no_timestamp(rt: HostRuntime) -> Result<(), Fail> {
+    let registry = Registry::new(rt.alloc())?;
+    expecting_prefixes::<Brand>(&rt, &registry, Layout::InTurn)
 }
 
 /// How many tables of a prefix weren't searched, and may still be.

@@ -6,15 +6,15 @@ use Rattle.tf_scan.proofs.place.Place.seek.Goals as goal
 
 pub returns-then-ends_before : goal.returns-then-ends_before
 returns-then-ends_before g c =
-    rw c.in-Closed.is (seek-ends c.args.direction c.args.value c.in-Closed.table c.in-Closed.bound c.args.timestamp (c.ends_before.ensures c.if-ends_before.true))
+    rw c.in-Closed.is (seek-ends c.args.direction c.args.value c.in-Closed.table c.in-Closed.bound c.in-Closed._expected c.args.timestamp (c.ends_before.ensures c.if-ends_before.true))
 
 pub returns-else-ends_before : goal.returns-else-ends_before
 returns-else-ends_before g c =
-    rw c.in-Closed.is (seek-closed c.args.direction c.args.value c.in-Closed.table c.in-Closed.bound c.args.timestamp (subst (IsPlace c.args.direction c.args.value) c.in-Closed.is c.requires) (sym c.is_before.ensures ∙ c.if-is_before.true))
+    rw c.in-Closed.is (seek-closed c.args.direction c.args.value c.in-Closed.table c.in-Closed.bound c.in-Closed._expected c.args.timestamp (subst (IsPlace c.args.direction c.args.value) c.in-Closed.is c.requires) (sym c.is_before.ensures ∙ c.if-is_before.true))
 
 pub returns-else-is_before : goal.returns-else-is_before
 returns-else-is_before g c =
-    rw c.in-Closed.is (seek-stays c.args.direction c.args.value c.in-Closed.table c.in-Closed.bound c.args.timestamp (subst (IsPlace c.args.direction c.args.value) c.in-Closed.is c.requires) (sym c.is_before.ensures ∙ c.if-is_before.false))
+    rw c.in-Closed.is (seek-stays c.args.direction c.args.value c.in-Closed.table c.in-Closed.bound c.in-Closed._expected c.args.timestamp (subst (IsPlace c.args.direction c.args.value) c.in-Closed.is c.requires) (sym c.is_before.ensures ∙ c.if-is_before.false))
 
 pub returns-in-Open : goal.returns-in-Open
 returns-in-Open g c =
