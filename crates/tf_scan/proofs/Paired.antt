@@ -7,7 +7,7 @@ use Rattle.tf_table.specs.Span.{timestamps}
 use Rattle.tf_scan.specs.declared.direction.Direction.{Direction}
 use Rattle.tf_scan.specs.declared.direction.Direction.TheVariants.{Rising, Falling}
 use Rattle.tf_scan.specs.Place.{is_past, IsTaken}
-use Rattle.tf_scan.specs.Run.{AreFirst, AreWritten, WritesEntries, WritesRows, without}
+use Rattle.tf_scan.specs.Run.{AreWritten, WritesEntries, WritesRows, without}
 use Rattle.tf_scan.proofs.Keys.{first-long, first-rest, taken-long}
 use Rattle.tf_scan.proofs.Runs.{rows-none, rows-one, rows-both}
 
