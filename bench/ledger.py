@@ -32,6 +32,7 @@ QUERIES = [
     ("query_all", "10,000 queries of four kinds at once, on all processors"),
     ("look_up_rising", "all transfers looked up by rising ids, in the order of the ids"),
     ("look_up_random", "all transfers looked up by random ids, in the order of the ids"),
+    ("look_up_strewn", "all transfers looked up by random ids, in the order in which they were stored"),
 ]
 # the workload in plain Rust where its name is another: there nothing is published
 PLAIN = {"ingest_small_published": "ingest_small"}

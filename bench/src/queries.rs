@@ -198,12 +198,21 @@ fn all_answers(ledger: &Ledger, questions: &[Question]) -> Vec<Answer> {
     })
 }
 
-/// Looks up each transfer once, in the largest look-ups: in the order of their rising ids, or in a random one.
-pub fn look_up(run: Run, ids: Ids) -> Measured {
+/// The order in which transfers are looked up.
+#[derive(Clone, Copy)]
+pub enum Order {
+    /// That of their ids.
+    OfIds,
+    /// That in which they were stored.
+    AsStored,
+}
+
+/// Looks up each transfer once, in the largest look-ups, in an order.
+pub fn look_up(run: Run, ids: Ids, order: Order) -> Measured {
     let ledger = ledger(run, ids);
     let mut transfers = Transfers::new(run.seed, ids);
     let mut wanted: Vec<u128> = (0..run.count).map(|_| transfers.transfer().id).collect();
-    if let Ids::Random = ids {
+    if let Order::OfIds = order {
         wanted.sort_unstable();
     }
     let look_ups = wanted.chunks(BATCH_MAX).collect();

@@ -3,6 +3,7 @@
 use plain::batches::{batch_lengths, Batches};
 use plain::events::{account_id, Ids, Transfers, ACCOUNTS, WITH_HISTORY};
 use plain::ledger::{Account, QueryFilter, BATCH_MAX};
+use plain::queries::Order;
 use plain::{ingest, pending, queries, script, sharing, Measured, Run};
 
 const RUN: Run = Run {
@@ -81,8 +82,9 @@ fn queries_find_rows() {
         queries::user_data_64_with_ledger(RUN),
         queries::ledger_with_code(RUN),
         queries::all(RUN),
-        queries::look_up(RUN, Ids::Rising),
-        queries::look_up(RUN, Ids::Random),
+        queries::look_up(RUN, Ids::Rising, Order::OfIds),
+        queries::look_up(RUN, Ids::Random, Order::OfIds),
+        queries::look_up(RUN, Ids::Random, Order::AsStored),
     ];
     assert!(queries.iter().all(|measured| measured.checksum != 0));
 }

@@ -8,13 +8,14 @@
 //! `ingest_small` stands for both of the workloads with small batches.
 
 use plain::events::Ids;
+use plain::queries::Order;
 use plain::{ingest, pending, queries, sharing, Measured, Run};
 use std::env;
 use std::process::ExitCode;
 
 type Workload = fn(Run) -> Measured;
 
-const WORKLOADS: [(&str, Workload); 20] = [
+const WORKLOADS: [(&str, Workload); 21] = [
     ("ingest_rising", |run| ingest::ingest(run, Ids::Rising)),
     ("ingest_random", |run| ingest::ingest(run, Ids::Random)),
     ("ingest_small", ingest::ingest_small),
@@ -39,8 +40,15 @@ const WORKLOADS: [(&str, Workload); 20] = [
         queries::balances(run, queries::LONG)
     }),
     ("query_all", queries::all),
-    ("look_up_rising", |run| queries::look_up(run, Ids::Rising)),
-    ("look_up_random", |run| queries::look_up(run, Ids::Random)),
+    ("look_up_rising", |run| {
+        queries::look_up(run, Ids::Rising, Order::OfIds)
+    }),
+    ("look_up_random", |run| {
+        queries::look_up(run, Ids::Random, Order::OfIds)
+    }),
+    ("look_up_strewn", |run| {
+        queries::look_up(run, Ids::Random, Order::AsStored)
+    }),
     ("shared_1", |run| sharing::share(run, 1)),
     ("shared_3", |run| sharing::share(run, 3)),
     ("shared_16", |run| sharing::share(run, 16)),

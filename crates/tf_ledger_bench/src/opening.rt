@@ -106,9 +106,9 @@ where
             let filters = asked.filters(rt.alloc(), run.seed, store.clock())?;
             ask_all(rt, &version, filters.as_slice())
         }
-        Task::LookUp(ids) => {
+        Task::LookUp(ids, order) => {
             let version = filled(rt, alloc, store, run, ids)?;
-            look_up(rt, &version, run, ids)
+            look_up(rt, &version, run, ids, order)
         }
         Task::Shared(readers) => share(rt, run, readers),
     }

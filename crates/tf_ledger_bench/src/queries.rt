@@ -6,7 +6,7 @@ use crate::fault::Fault;
 use crate::filters::Asked;
 use crate::numbers::{low, mixed};
 use crate::times::{Measured, Spent, Times, since};
-use crate::workload::Run;
+use crate::workload::{Order, Run};
 use std::alloc::{AllocError, Allocator, Global};
 use std::thread::Threads;
 use std::time::{Clock, Instant};
@@ -49,15 +49,18 @@ where
     Ok(measured(sum, since(rt, &start)?))
 }
 
-/// Looks up each transfer once, in the largest look-ups, in the order of the ids.
+/// Looks up each transfer once, in the largest look-ups, in an order.
 pub(crate) fn look_up<A: Allocator, N: Naming, R: Clock + AllocGlobal>(
     rt: &R,
     version: &Version<'_, A, N>,
     run: Run,
     ids: Ids,
+    order: Order,
 ) -> Result<Measured, Fault> {
     let mut wanted = ids_of(rt.alloc(), run, ids)?;
-    wanted.sort_unstable();
+    if let Order::OfIds = order {
+        wanted.sort_unstable();
+    }
     let start = Instant::now(rt)?;
     let mut sum = 0;
     for ids in wanted.chunks(LARGE as usize) {

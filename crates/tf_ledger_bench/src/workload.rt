@@ -38,10 +38,19 @@ pub(crate) enum Task {
     Ask(Asked),
     /// Filters are answered at once.
     AskAll(Asked),
-    /// Transfers are looked up.
-    LookUp(Ids),
+    /// Transfers are looked up, in an order.
+    LookUp(Ids, Order),
     /// Transfers are stored while so many threads read.
     Shared(u32),
+}
+
+/// The order in which transfers are looked up.
+#[derive(Clone, Copy)]
+pub(crate) enum Order {
+    /// That of their ids.
+    OfIds,
+    /// That in which they were stored.
+    AsStored,
 }
 
 /// Something to measure.
@@ -52,7 +61,7 @@ pub(crate) struct Workload {
     pub(crate) task: Task,
 }
 
-pub(crate) const WORKLOADS: [Workload; 21] = [
+pub(crate) const WORKLOADS: [Workload; 22] = [
     Workload {
         name: "ingest_rising",
         task: Task::Ingest(Ids::Rising),
@@ -119,11 +128,15 @@ pub(crate) const WORKLOADS: [Workload; 21] = [
     },
     Workload {
         name: "look_up_rising",
-        task: Task::LookUp(Ids::Rising),
+        task: Task::LookUp(Ids::Rising, Order::OfIds),
     },
     Workload {
         name: "look_up_random",
-        task: Task::LookUp(Ids::Random),
+        task: Task::LookUp(Ids::Random, Order::OfIds),
+    },
+    Workload {
+        name: "look_up_strewn",
+        task: Task::LookUp(Ids::Random, Order::AsStored),
     },
     Workload {
         name: "shared_1",
