@@ -56,7 +56,7 @@ SETTLED = (
 )
 SEARCHES = (
     "half of a short query's instructions find the first timestamps of the account's two sides, and a third make the scans, with a place "
-    "for each of some 16 tables, which is copied three times, and with boxes for which memory is taken six times: places could be made as "
+    "for each of some 16 tables, which is copied three times, and with boxes for which memory is taken five times: places could be made as "
     "their tables' turn comes."
 )
 NEXT = {name: CHANGES for name, _ in INGEST}
@@ -71,11 +71,12 @@ NEXT |= {
     "to test its ledger; an index of ledgers and values together would lead to those wanted alone.",
     "query_ledger_with_code": "each transfer with the code is found by a search for its table and its place there, and read from far memory "
     "to test its ledger; an index of ledgers and codes together would lead to those wanted alone.",
-    "query_balances_200": "an account's rows lie in far memory in each of some 16 tables, and each is searched three times, for their "
-    "timestamps, for the first row and for the rows behind it: the searches could take turns, as those for ids do, and the two later ones "
-    "begin where the first ended.",
-    "look_up_rising": "of each id the filters of some 16 tables are asked, one after another, before its own is searched.",
-    "look_up_random": "of each id the filters of some 16 tables are asked twice, to guess its table and to look it up.",
+    "query_balances_200": "an account's rows lie in far memory in each of some 16 tables, their keys apart from their entries; the tables are searched "
+    "together, but each is then read by itself, and the end of its rows is looked for by itself.",
+    "look_up_rising": "each table of the row of ids is asked of each id, if only for its gap: where tables follow each other one alone could be.",
+    "look_up_random": "each table of the row of ids is asked of each id, if only for its gap.",
+    "look_up_strewn": "of each id the filters of some 16 tables are asked twice, to guess its table and to look it up: the first look could say which "
+    "tables don't have it.",
 }
 HEAD = [
     "| workload | transfers | merges | ours, ms | plain Rust, ms | rate | worst batch, ms | plain Rust's, ms | peak MiB | plain Rust's, MiB | events | publishes | merges |",
