@@ -18,8 +18,8 @@ use crate::reads::{accounts_at, transfers_at};
 use crate::residual::{Residual, Tested, account_lead, query_lead};
 use crate::scans::{account_scan, narrowed, object_scan};
 use crate::scans_answer_filters;
-use crate::timestamps::{FEW, few_within, timestamps_within};
-use crate::window::Window;
+use crate::timestamps::{few_within, timestamps_within};
+use crate::window::{FEW, Window};
 use std::alloc::Allocator;
 use tf_journal::{is_valid_account_filter, is_valid_query_filter};
 use tf_manifest::{Manifest, Naming};
@@ -36,7 +36,7 @@ pub fn account_timestamps<A: Allocator, N: Naming, B: Allocator + Copy>(
     ensures refusal { IfErr result (λ refusal. refusal ≡ Refusal.NoMemory) }
 {
     let window = Window::of_account_filter(filter);
-    match account_scan(alloc, manifest, window.direction, filter) {
+    match account_scan(alloc, manifest, &window, filter) {
         Ok(scan) => timestamps_within(alloc, scan, &window),
         Err(refusal) => Err(refusal),
     }
@@ -52,13 +52,7 @@ fn transfer_timestamps<A: Allocator, N: Naming, B: Allocator + Copy>(
     ensures refusal { IfErr result (λ refusal. refusal ≡ Refusal.NoMemory) }
 {
     let window = Window::of_query_filter(filter);
-    match narrowed(
-        alloc,
-        manifest,
-        window.direction,
-        None,
-        &transfer_conditions(filter),
-    ) {
+    match narrowed(alloc, manifest, &window, None, &transfer_conditions(filter)) {
         Ok(Some(scan)) => timestamps_within(alloc, scan, &window),
         Ok(None) => {
             let scan = object_scan(alloc, manifest.transfers.row(0), window.direction)?;
@@ -78,13 +72,7 @@ fn found_account_timestamps<A: Allocator, N: Naming, B: Allocator + Copy>(
     ensures refusal { IfErr result (λ refusal. refusal ≡ Refusal.NoMemory) }
 {
     let window = Window::of_query_filter(filter);
-    match narrowed(
-        alloc,
-        manifest,
-        window.direction,
-        None,
-        &account_conditions(filter),
-    ) {
+    match narrowed(alloc, manifest, &window, None, &account_conditions(filter)) {
         Ok(Some(scan)) => timestamps_within(alloc, scan, &window),
         Ok(None) => {
             let scan = object_scan(alloc, manifest.accounts.row(0), window.direction)?;
@@ -111,7 +99,7 @@ fn tested_account_transfers<A: Allocator, N: Naming, B: Allocator + Copy>(
     let window = Window::of_account_filter(filter);
     let residual = Residual::of_account_filter(tested, filter);
     let lead = account_lead(tested, filter);
-    match account_scan(alloc, manifest, window.direction, &lead) {
+    match account_scan(alloc, manifest, &window, &lead) {
         Ok(scan) => passing_within(alloc, manifest, &residual, scan, &window),
         Err(refusal) => Err(refusal),
     }
@@ -134,7 +122,7 @@ fn tested_transfers<A: Allocator, N: Naming, B: Allocator + Copy>(
     match narrowed(
         alloc,
         manifest,
-        window.direction,
+        &window,
         None,
         &transfer_conditions(&query_lead(tested, filter)),
     ) {
@@ -218,7 +206,7 @@ fn few_account_transfers<A: Allocator, N: Naming, B: Allocator + Copy>(
     ensures refusal { IfErr result (λ refusal. refusal ≡ Refusal.NoMemory) }
 {
     let window = Window::of_account_filter(filter);
-    let scan = account_scan(alloc, manifest, window.direction, filter)?;
+    let scan = account_scan(alloc, manifest, &window, filter)?;
     let mut part = [0; FEW as usize];
     let count = few_within(scan, &window, &mut part);
     transfers_at(alloc, manifest, &part[..count])

@@ -10,6 +10,7 @@ ghost use Rattle.tf_query.specs.History.{asks_whole_account, has_sums, history_a
 ghost use Rattle.tf_query.specs.Windows.{AreFirst, account_window};
 
 use crate::balances::balances_at;
+use crate::expected::Expected;
 use crate::filters::account_timestamps;
 use crate::look_ups::stored_account;
 use crate::scans::asks_no_field;
@@ -20,7 +21,7 @@ use std::alloc::Allocator;
 use tf_journal::{has_flag, is_valid_account_filter};
 use tf_manifest::{Manifest, Naming};
 use tf_records::{Account, AccountBalance, AccountFilter, Refusal};
-use tf_scan::{ANYWHERE, Prefix, Scan, expected_places};
+use tf_scan::{Prefix, Scan};
 
 /// Whether the account with this id is stored with history, in any journal that the manifest shows.
 fn has_history<A: Allocator, N: Naming>(manifest: &Manifest<'_, A, N>, id: u128) -> bool
@@ -40,23 +41,6 @@ fn asks_whole_account(filter: &AccountFilter) -> bool
     filter.flags & AccountFilter::DEBITS != 0
         && filter.flags & AccountFilter::CREDITS != 0
         && asks_no_field(filter)
-}
-
-/// So few timestamps mostly need one or two of the tables.
-const FEW: usize = 32;
-
-/// Where the sums of a filter's account are expected in the tables of their row.
-///
-/// Where more than a few are asked for, the tables are searched together. Else nothing is searched, and they are expected anywhere.
-fn expected_sums<A: Allocator, N: Naming>(
-    manifest: &Manifest<'_, A, N>,
-    filter: &AccountFilter,
-) -> [usize; 64] {
-    if Window::of_account_filter(filter).most > FEW {
-        expected_places(manifest.sums.row(0), filter.account_id)
-    } else {
-        [ANYWHERE; 64]
-    }
 }
 
 /// The first timestamps in a filter's window, in its direction, at which the row of sums has something of its account. They
@@ -113,14 +97,16 @@ pub fn account_history<A: Allocator, N: Naming, B: Allocator + Copy>(
     }
     sums_date_history();
     scans_answer_filters();
-    let expected = expected_sums(manifest, filter);
-    match history_timestamps(alloc, manifest, filter, &expected) {
+    let window = Window::of_account_filter(filter);
+    let expected = Expected::by(&window, manifest.sums.row(0), filter.account_id);
+    let expected = expected.as_slice();
+    match history_timestamps(alloc, manifest, filter, expected) {
         Ok(timestamps) => balances_at(
             alloc,
             manifest,
             filter.account_id,
-            Window::of_account_filter(filter).direction,
-            &expected,
+            window.direction,
+            expected,
             timestamps.as_slice(),
         ),
         Err(refusal) => Err(refusal),

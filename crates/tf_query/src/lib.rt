@@ -9,6 +9,7 @@
 mod at_once;
 mod balances;
 mod condition;
+mod expected;
 mod filters;
 mod finder;
 mod gapped;

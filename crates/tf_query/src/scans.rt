@@ -10,6 +10,8 @@ ghost use Rattle.tf_query.specs.Reads.{has_entry};
 ghost use Rattle.tf_scan.specs.Sets.{is_among};
 
 use crate::condition::{Condition, field_conditions};
+use crate::expected::Expected;
+use crate::window::Window;
 use std::alloc::Allocator;
 use tf_manifest::{Manifest, Naming, RowValue, Tables, UnitRow};
 use tf_records::{AccountFilter, Refusal};
@@ -18,19 +20,21 @@ use tf_scan::{Direction, Leaf, Prefix, Scan};
 /// Timestamps under values of indexes, joined in boxes on a query's allocator.
 pub type IndexScan<'r, A, B> = Scan<Prefix<'r, (), A>, B>;
 
-/// The timestamps under a value of an index. `NoMemory` is the only refusal.
+/// The timestamps under a value of an index, to be read for a window. `NoMemory` is the only refusal.
 fn index_scan<'r, A: Allocator, N: Naming, B: Allocator>(
     alloc: B,
     manifest: &Manifest<'r, A, N>,
-    direction: Direction,
+    window: &Window,
     row: UnitRow,
     value: u128,
 ) -> Result<IndexScan<'r, A, B>, Refusal>
-    ensures direction { IfOk result (λ scan. scan.direction ≡ direction) }
+    ensures direction { IfOk result (λ scan. scan.direction ≡ window.now.direction) }
     ensures members { IfOk result (λ scan. (t : ℕ) → is_among t scan.left ≡ has_entry manifest.now row value t) }
     ensures refusal { IfErr result (λ refusal. refusal ≡ Refusal.NoMemory) }
 {
-    let prefix = Prefix::new(manifest.units.row(row.index()), value, direction);
+    let tables = manifest.units.row(row.index());
+    let expected = Expected::by(window, tables, value);
+    let prefix = Prefix::expecting(tables, value, window.direction, expected.as_slice());
     Scan::leaf(alloc, prefix)
 }
 
@@ -93,12 +97,12 @@ fn united<P: Leaf + Drop, B: Allocator + Copy>(
 pub fn narrowed<'r, A: Allocator, N: Naming, B: Allocator + Copy>(
     alloc: B,
     manifest: &Manifest<'r, A, N>,
-    direction: Direction,
+    window: &Window,
     scan: Option<IndexScan<'r, A, B>>,
     conditions: &[Condition],
 ) -> Result<Option<IndexScan<'r, A, B>>, Refusal>
-    requires { IfSome scan (λ s. s.direction ≡ direction) }
-    ensures direction { IfOk result (λ narrowed. IfSome narrowed (λ s. s.direction ≡ direction)) }
+    requires { IfSome scan (λ s. s.direction ≡ window.now.direction) }
+    ensures direction { IfOk result (λ narrowed. IfSome narrowed (λ s. s.direction ≡ window.now.direction)) }
     ensures some { IfOk result (λ narrowed. is_some narrowed ≡ (is_some scan.entry || not (list_all asks_nothing conditions.now))) }
     ensures members { IfOk result (λ narrowed. (t : ℕ) → is_left t narrowed ≡ (is_left t scan.entry && meets_all manifest.now conditions.now t)) }
     ensures refusal { IfErr result (λ refusal. refusal ≡ Refusal.NoMemory) }
@@ -106,7 +110,7 @@ pub fn narrowed<'r, A: Allocator, N: Naming, B: Allocator + Copy>(
     let mut left = scan;
     for condition in conditions {
         if condition.value != 0 {
-            let asked = index_scan(alloc, manifest, direction, condition.row, condition.value);
+            let asked = index_scan(alloc, manifest, window, condition.row, condition.value);
             left = Some(narrowed_by(alloc, left, asked)?);
         }
     }
@@ -118,23 +122,23 @@ pub fn narrowed<'r, A: Allocator, N: Naming, B: Allocator + Copy>(
 fn sides<'r, A: Allocator, N: Naming, B: Allocator + Copy>(
     alloc: B,
     manifest: &Manifest<'r, A, N>,
-    direction: Direction,
+    window: &Window,
     filter: &AccountFilter,
 ) -> Result<IndexScan<'r, A, B>, Refusal>
     requires { (asks_debits filter.now || asks_credits filter.now) ≡ true }
-    ensures direction { IfOk result (λ scan. scan.direction ≡ direction) }
+    ensures direction { IfOk result (λ scan. scan.direction ≡ window.now.direction) }
     ensures members { IfOk result (λ scan. (t : ℕ) → is_among t scan.left ≡ side_at manifest.now filter.now t) }
     ensures refusal { IfErr result (λ refusal. refusal ≡ Refusal.NoMemory) }
 {
     let account = filter.account_id;
     if filter.flags & AccountFilter::CREDITS == 0 {
-        return index_scan(alloc, manifest, direction, UnitRow::TransferDebit, account);
+        return index_scan(alloc, manifest, window, UnitRow::TransferDebit, account);
     }
-    let credits = index_scan(alloc, manifest, direction, UnitRow::TransferCredit, account)?;
+    let credits = index_scan(alloc, manifest, window, UnitRow::TransferCredit, account)?;
     if filter.flags & AccountFilter::DEBITS == 0 {
         return Ok(credits);
     }
-    let debits = index_scan(alloc, manifest, direction, UnitRow::TransferDebit, account);
+    let debits = index_scan(alloc, manifest, window, UnitRow::TransferDebit, account);
     united(alloc, credits, debits)
 }
 
@@ -153,17 +157,17 @@ pub fn asks_no_field(filter: &AccountFilter) -> bool
 pub fn account_scan<'r, A: Allocator, N: Naming, B: Allocator + Copy>(
     alloc: B,
     manifest: &Manifest<'r, A, N>,
-    direction: Direction,
+    window: &Window,
     filter: &AccountFilter,
 ) -> Result<IndexScan<'r, A, B>, Refusal>
     requires { (asks_debits filter.now || asks_credits filter.now) ≡ true }
-    ensures direction { IfOk result (λ scan. scan.direction ≡ direction) }
+    ensures direction { IfOk result (λ scan. scan.direction ≡ window.now.direction) }
     ensures members { IfOk result (λ scan. (t : ℕ) → is_among t scan.left ≡ account_filter_at manifest.now filter.now t) }
     ensures refusal { IfErr result (λ refusal. refusal ≡ Refusal.NoMemory) }
 {
-    let both = sides(alloc, manifest, direction, filter)?;
+    let both = sides(alloc, manifest, window, filter)?;
     let fields = field_conditions(filter);
-    let left = narrowed(alloc, manifest, direction, Some(both), &fields)?;
+    let left = narrowed(alloc, manifest, window, Some(both), &fields)?;
     match left {
         Some(scan) => Ok(scan),
         None => unreachable!(),

@@ -6,16 +6,13 @@ ghost use Rattle.tf_query.specs.Reading.{AreFrom, IsPart, all_within};
 ghost use Rattle.tf_query.specs.Windows.{first_within};
 ghost use Rattle.tf_scan.specs.Order.{IsInOrder};
 
-use crate::window::Window;
+use crate::window::{FEW, Window};
 use std::alloc::Allocator;
 use tf_records::Refusal;
 use tf_scan::{Direction, Leaf, Scan};
 
 /// How many timestamps are read off a scan at once.
 pub const PART: usize = 256;
-
-/// So many timestamps need no memory of their own: one part has them all.
-pub const FEW: u32 = 32;
 
 /// Takes out what comes before a window's first bound.
 pub fn seek_first<P: Leaf, B: Allocator>(scan: &mut Scan<P, B>, window: &Window)

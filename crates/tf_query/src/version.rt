@@ -81,7 +81,8 @@ impl<'r, A: Allocator, N: Naming> Version<'r, A, N> {
     /// than what is still asked for, so that few open few tables. Memory is taken for a box of two kilobytes for each of them
     /// and two small boxes for each but the first, once for the timestamps (just as many where one part has them all, else as
     /// many as the limit; none where the limit is 32 or less), and once for just as many rows, into which each record is copied
-    /// from its table.
+    /// from its table. Where the limit is above 32 and no bound is given, all tables of an index are searched at first, and the
+    /// searches take turns, so that what they read comes from memory together; else a table is searched once it is read.
     ///
     /// A code of which there are no fewer timestamps than of the account, by the largest tables of their indexes, isn't read so:
     /// it is tested on the records at the other timestamps, each of which costs one look-up, whether it passes or not, and a
@@ -105,8 +106,7 @@ impl<'r, A: Allocator, N: Naming> Version<'r, A, N> {
     /// timestamp: of a stored account with the flag `HISTORY` alone, else nothing.
     ///
     /// Refused as there. Where both sides are asked for and no field, the rows of the account's balances are read alone, in
-    /// each table from a search on; where the limit is above 32 all tables are searched at first, and the searches take turns,
-    /// so that what they read comes from memory together. Else the timestamps are read in the same way as there, but that those
+    /// each table from a search on, as those of an index are there. Else the timestamps are read in the same way as there, but that those
     /// of a code that is asked for are read beside the others. The balances of each transfer are looked for next to those of the
     /// last one. Restates the reference page get_account_balances.
     pub fn get_account_balances<B: Allocator + Copy>(

@@ -7,6 +7,9 @@ ghost use Rattle.tf_query.specs.Windows.{account_window, query_window};
 use tf_records::{AccountFilter, BATCH_MAX, QueryFilter};
 use tf_scan::Direction;
 
+/// So few timestamps mostly need one or two of the tables of a row, and no memory of their own: one part has them all.
+pub const FEW: u32 = 32;
+
 /// From when to when timestamps are asked for, in which direction, and how many at most.
 #[derive(Clone, Copy)]
 pub struct Window {
@@ -52,6 +55,11 @@ impl Window {
             high: filter.timestamp_max,
             most: filter.limit.min(BATCH_MAX) as usize,
         }
+    }
+
+    /// Whether most tables of a row will be read for it: it asks for many timestamps, of any time.
+    pub fn reads_most_tables(&self) -> bool {
+        self.most > FEW as usize && self.low == 0 && self.high == 0
     }
 
     /// Whether a timestamp is within the bounds.

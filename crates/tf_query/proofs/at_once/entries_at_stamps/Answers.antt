@@ -1,4 +1,4 @@
-use Rattle.std.proofs.Common.{◌∙◌, ap, arith, map, None}
+use Rattle.std.proofs.Common.{◌∙◌, arith, map, None}
 use Rattle.std.specs.Option.{option_and_then, option_copied}
 use Rattle.std.proofs.lemmas.List.{length-set}
 use Rattle.tf_table.specs.Content.{entry_of}

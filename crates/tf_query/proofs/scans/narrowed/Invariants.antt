@@ -6,7 +6,7 @@ use Rattle.tf_query.proofs.scans.narrowed.Given as goal
 
 abbrev pub invariant-loop-condition : goal.invariant-loop-condition
 invariant-loop-condition g l = record {
-  direction : IfSome l.left (λ s. s.direction ≡ l.direction);
+  direction : IfSome l.left (λ s. s.direction ≡ l.window.direction);
   some : is_some l.left ≡ (is_some l.initial.left || not (list_all asks_nothing (take l.condition-index l.conditions)));
   members : (t : ℕ) → is_left t l.left ≡ (is_left t l.initial.left && meets_all l.manifest (take l.condition-index l.conditions) t);
 }
