@@ -67,7 +67,8 @@ NEXT |= {
 }
 NEXT |= {name: SEARCHES for name, _ in QUERIES}
 NEXT |= {
-    "query_account_200_back": "each record lies in far memory, and its entry has 160 bytes there, two or three lines, where plain Rust's has 128.",
+    "query_account_200_back": "each record lies in far memory, and its entry has 144 bytes there, three lines, where plain Rust's has 128; before that some 32 "
+    "tables of the account's two indexes are searched, together, and each is then read by itself.",
     "query_user_data_64_with_ledger": "each transfer with the value is found by a search for its table and its place there, and read from far memory "
     "to test its ledger; an index of ledgers and values together would lead to those wanted alone.",
     "query_ledger_with_code": "each transfer with the code is found by a search for its table and its place there, and read from far memory "

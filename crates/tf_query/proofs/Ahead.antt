@@ -6,7 +6,6 @@ use Rattle.std.specs.Option.{option_to_list}
 use Rattle.std.proofs.lemmas.List.{get_or-map, get_or-take, map-append, map_more, take_more_set}
 use Rattle.std.proofs.lemmas.List.Elements.{filter_map-append}
 use Rattle.tf_query.proofs.Found.{found-one}
-use Rattle.tf_query.proofs.Testing.{take-taken}
 
 module _ {X Y Z : Type 0} (g : X → Option Y) (f : Z → Option Y) where
   -- one of those that were found
@@ -72,11 +71,3 @@ module _ {X Y Z W : Type 0} (g : X → Option Y) (f : Z → Option Y) (p : Optio
   -- with what is still to come, the rows are the same after one more part was read
   pub more-ahead : (xs : List X) (part others rest : List Z) (old new whole : List W) → map g xs ≡ map f part → rest ≡ part ++ others → new ≡ old ++ filter_map (λ x. p (g x)) xs → old ++ filter_map (λ z. p (f z)) rest ≡ whole → new ++ filter_map (λ z. p (f z)) others ≡ whole
   more-ahead xs part others rest old new whole e s n o = ap (λ ys. ys ++ filter_map (λ z. p (f z)) others) n ∙ part-ahead xs part others rest old e s ∙ o
-
-  -- and so are as many of them as are asked for
-  pub cut-ahead : (most : ℕ) (xs : List X) (part others rest : List Z) (old new whole : List W) → map g xs ≡ map f part → rest ≡ part ++ others → new ≡ take most (old ++ filter_map (λ x. p (g x)) xs) → take most (old ++ filter_map (λ z. p (f z)) rest) ≡ whole → take most (new ++ filter_map (λ z. p (f z)) others) ≡ whole
-  cut-ahead most xs part others rest old new whole e s n o =
-      ap (λ ys. take most (ys ++ filter_map (λ z. p (f z)) others)) n
-      ∙ take-taken most (old ++ filter_map (λ x. p (g x)) xs) (filter_map (λ z. p (f z)) others)
-      ∙ ap (take most) (part-ahead xs part others rest old e s)
-      ∙ o

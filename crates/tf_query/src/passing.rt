@@ -1,15 +1,12 @@
 //! The transfers that a scan leads to and that pass what is left to be tested.
-ghost use Rattle.std.specs.Prelude.{◌≡◌, ◌+◌, ◌≤◌, ◌++◌, length, map, min, take, vec_capacity, vec_len, IfErr, IfOk};
+ghost use Rattle.std.specs.Prelude.{◌≡◌, ◌+◌, ◌≤◌, ◌++◌, length, min, take, vec_capacity, vec_len, IfErr, IfOk};
 ghost use Rattle.std.specs.List.{filter_map};
 ghost use Rattle.std.specs.Option.{option_and_then, option_copied};
-ghost use Rattle.tf_manifest.specs.Row.{content_at};
-ghost use Rattle.tf_manifest.specs.Rows.{key_of};
-ghost use Rattle.tf_query.specs.Reads.{stored_record};
 ghost use Rattle.tf_query.specs.Residual.{first_passing, passed, passing_in};
 ghost use Rattle.tf_scan.specs.Order.{IsInOrder};
 
 use crate::finder::Finder;
-use crate::reads::{AHEAD, find_transfers, push_record};
+use crate::reads::{found_transfer, push_record};
 use crate::residual::Residual;
 use crate::timestamps::{PART, read_part, seek_first};
 use crate::window::Window;
@@ -30,45 +27,10 @@ fn passing<'r>(residual: &Residual, found: Option<&'r Transfer>) -> Option<&'r T
     }
 }
 
-/// The transfers with these timestamps, each in the place of its timestamp, where its table has it and it passes.
-///
-/// All of them are tested before the first is copied. Whether one passes can't be foretold, so a copy that hangs on it would
-/// wait for each transfer to come from far memory by itself.
-fn find_passing<'r, A: Allocator, N: Naming>(
-    transfers: &mut Finder<'_, 'r, Stored<Transfer>, A, N>,
-    residual: &Residual,
-    timestamps: &[u64],
-) -> [Option<&'r Transfer>; AHEAD]
-    requires { length timestamps.now ≤ 16 }
-    ensures found { map option_copied (take (length timestamps.now) result) ≡ map (λ t. option_and_then (passed residual.now) (stored_record (content_at (key_of 0 t) transfers.old))) timestamps.now }
-    ensures same { transfers.new ≡ transfers.old }
-{
-    let found = find_transfers(transfers, timestamps);
-    let mut left = [None; AHEAD];
-    for place in 0..timestamps.len() {
-        left[place] = passing(residual, found[place]);
-    }
-    left
-}
-
-/// Puts copies of the transfers that were found at the end of the rows, until there are as many as are asked for.
-fn push_until<B: Allocator>(rows: &mut Vec<Transfer, B>, found: &[Option<&Transfer>], most: usize)
-    requires few { vec_len rows.old ≤ most }
-    requires room { min most (vec_len rows.old + length found.now) ≤ vec_capacity rows.old }
-    ensures items { rows.new.items ≡ take most (rows.old.items ++ filter_map option_copied found.now) }
-    ensures few { vec_len rows.new ≤ most }
-    ensures len { vec_len rows.new ≤ vec_len rows.old + length found.now }
-    ensures room { vec_capacity rows.new ≡ vec_capacity rows.old }
-{
-    for transfer in found {
-        if rows.len() == most {
-            return;
-        }
-        push_record(rows, *transfer);
-    }
-}
-
 /// Puts the transfers with these timestamps that pass at the end of the rows, until there are as many as are asked for.
+///
+/// Each is tested and copied in one step. A processor reads on behind a test, so that the next ones come from far memory in the
+/// meantime; to find and test many before the first is copied was slower.
 fn push_passing<A: Allocator, N: Naming, B: Allocator>(
     manifest: &Manifest<'_, A, N>,
     residual: &Residual,
@@ -82,15 +44,12 @@ fn push_passing<A: Allocator, N: Naming, B: Allocator>(
     ensures room { vec_capacity rows.new ≡ vec_capacity rows.old }
 {
     let mut transfers = Finder::new(manifest.transfers.row(0));
-    let mut rest = timestamps;
-    while !rest.is_empty() {
+    for timestamp in timestamps {
         if rows.len() == most {
             return;
         }
-        let (part, others) = rest.split_at(rest.len().min(AHEAD));
-        let found = find_passing(&mut transfers, residual, part);
-        push_until(rows, &found[..part.len()], most);
-        rest = others;
+        let found = passing(residual, found_transfer(&mut transfers, *timestamp));
+        push_record(rows, found);
     }
 }
 

@@ -112,7 +112,7 @@ pub fn found_transfer<'r, A: Allocator, N: Naming>(
 pub const AHEAD: usize = 16;
 
 /// The transfers with these timestamps, each in the place of its timestamp, where its table has it.
-pub fn find_transfers<'r, A: Allocator, N: Naming>(
+fn find_transfers<'r, A: Allocator, N: Naming>(
     transfers: &mut Finder<'_, 'r, Stored<Transfer>, A, N>,
     timestamps: &[u64],
 ) -> [Option<&'r Transfer>; AHEAD]

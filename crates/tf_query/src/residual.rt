@@ -68,8 +68,8 @@ impl Residual {
         }
     }
 
-    /// Whether a transfer has the fields that are tested. Both are compared, without a branch, since which transfers pass can't
-    /// be foretold: a processor that waits for none of them reads many from far memory at once.
+    /// Whether a transfer has the fields that are tested. Both are compared, without a branch between them:
+    /// whether a transfer passes can't be foretold, and one wrong guess is enough.
     #[inline]
     pub fn passes(&self, transfer: &Transfer) -> bool
         ensures { result ≡ passes self.now transfer.now }
