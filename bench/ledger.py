@@ -74,7 +74,8 @@ NEXT |= {
     "query_ledger_with_code": "each transfer with the code is found by a search for its table and its place there, and read from far memory "
     "to test its ledger; an index of ledgers and codes together would lead to those wanted alone.",
     "query_balances_200": "an account's rows lie in far memory in each of some 16 tables, their keys apart from their entries; the tables are searched "
-    "together, but each is then read by itself, and the end of its rows is looked for by itself.",
+    "together, but each is then read by itself, and the end of its rows is looked for by itself. More than `bench/run layout` shows isn't to be had "
+    "while there are so many tables: there plain Rust reads them without a search, and comes to a third of the rate at most.",
     "look_up_rising": "each table of the row of ids is asked of each id, if only for its gap: where tables follow each other one alone could be.",
     "look_up_random": "each table of the row of ids is asked of each id, if only for its gap.",
     "look_up_strewn": "of each id the filters of some 16 tables are asked twice, to guess its table and to look it up: the first look could say which "
