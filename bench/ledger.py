@@ -55,9 +55,8 @@ SETTLED = (
     "merges it in the writer's thread: such rows could be merged before, by others."
 )
 SEARCHES = (
-    "half of a short query's instructions find the first timestamps of the account's two sides, and a third make the scans, with a place "
-    "for each of some 16 tables, which is copied three times, and with boxes for which memory is taken five times: places could be made as "
-    "their tables' turn comes."
+    "nearly half of a short query's time goes into searches in the first tables of the account's two indexes, one after another, each of which "
+    "waits for fences and keys from far memory; a sixth makes the scans, with a place for each of some 16 tables, which is copied three times."
 )
 NEXT = {name: CHANGES for name, _ in INGEST}
 NEXT |= {name: SETTLED for name in ("pending_post", "pending_void")}
