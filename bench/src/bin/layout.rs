@@ -3,8 +3,8 @@
 //!
 //! `layout WORKLOAD LAYOUT COUNT SEED` prints a checksum, and nanoseconds. A layout is `together`, `tables`, or `fetched`,
 //! which is `tables` where the processor is told of all lines of an answer before the first is read. In each of them it is known
-//! beforehand where an answer's rows lie: nothing is searched, merged or checked. So no query over tables is faster than
-//! `tables`, however it is written.
+//! beforehand where an answer's rows lie: nothing is searched, merged or checked. So a query over tables can be expected to take
+//! at least as long as `tables`, however it is written.
 
 use plain::keys::{Generator, Key};
 use plain::ledger::{AccountBalance, Transfer};
