@@ -11,7 +11,7 @@ use crate::residual::Residual;
 use crate::timestamps::{PART, read_part, seek_first};
 use crate::window::Window;
 use std::alloc::Allocator;
-use tf_manifest::{Manifest, Naming, Stored};
+use tf_manifest::{Manifest, Naming};
 use tf_records::{Refusal, Transfer};
 use tf_scan::{Leaf, Scan};
 

@@ -68,8 +68,8 @@ impl Residual {
         }
     }
 
-    /// Whether a transfer has the fields that are tested. Both are compared, without a branch between them:
-    /// whether a transfer passes can't be foretold, and one wrong guess is enough.
+    /// Whether a transfer has the fields that are tested. Both are compared, without a branch between them: whether a transfer
+    /// passes can't be foretold, and one wrong guess is enough.
     #[inline]
     pub fn passes(&self, transfer: &Transfer) -> bool
         ensures { result ≡ passes self.now transfer.now }
