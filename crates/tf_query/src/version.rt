@@ -106,9 +106,9 @@ impl<'r, A: Allocator, N: Naming> Version<'r, A, N> {
     /// timestamp: of a stored account with the flag `HISTORY` alone, else nothing.
     ///
     /// Refused as there. Where both sides are asked for and no field, the rows of the account's balances are read alone, in
-    /// each table from a search on, as those of an index are there. Else the timestamps are read in the same way as there, but that those
-    /// of a code that is asked for are read beside the others. The balances of each transfer are looked for next to those of the
-    /// last one. Restates the reference page get_account_balances.
+    /// each table from a search on, as those of an index are there. Else the timestamps are read in the same way as there, but
+    /// that those of a code that is asked for are read beside the others. The balances of each transfer are looked for next to
+    /// those of the last one. Restates the reference page get_account_balances.
     pub fn get_account_balances<B: Allocator + Copy>(
         &self,
         alloc: B,
