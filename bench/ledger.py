@@ -1,4 +1,4 @@
-"""The workloads of a ledger: those of crates/tf_ledger_bench, over the forest and its versions, and of bench/src/bin/ledger.rs."""
+"""The workloads of a ledger: those of bench/proved/tf_ledger_bench, over the forest and its versions, and of bench/src/bin/ledger.rs."""
 import statistics
 import sys
 

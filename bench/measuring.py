@@ -1,11 +1,14 @@
 """What both parts of the benchmark share: programs that are built, run and measured, and the file with the results."""
+import datetime
 import os
 import platform
 import subprocess
 import sys
 from pathlib import Path
 
-TOP = Path(__file__).resolve().parent.parent
+import room
+from room import TOP
+
 RESULTS = TOP / "bench/RESULTS.md"
 SEED = 1
 
@@ -15,12 +18,16 @@ def say(line):
 
 
 def build(crate):
-    """Proves and builds a program of this repository, and gives its path."""
-    say(f"proving and building crates/{crate}")
-    run = subprocess.run(["rt", "run"], cwd=TOP / "crates" / crate, stdin=subprocess.DEVNULL, capture_output=True, text=True)
-    program = TOP / "crates" / crate / "out" / crate
+    """Proves and builds a program of bench/proved, and gives its path."""
+    place = room.kept()
+    folder = place / "crates" / crate
+    room.make(place)
+    room.take_over(place)
+    say(f"proving and building {crate} in {folder}")
+    run = subprocess.run(["rt", "run"], cwd=folder, stdin=subprocess.DEVNULL, capture_output=True, text=True)
+    program = folder / "out" / crate
     if run.returncode != 0 or not program.exists():
-        sys.exit(run.stdout + run.stderr + f"bench/run: crates/{crate} could not be built; the lines above say why")
+        sys.exit(run.stdout + run.stderr + f"bench/run: bench/proved/{crate} could not be built; the lines above say why")
     return program
 
 
@@ -55,11 +62,26 @@ def processor():
     return names[0] if names else platform.processor()
 
 
+def git(*words):
+    """What git says of the repository, or nothing where it can't."""
+    try:
+        return subprocess.run(["git", *words], cwd=TOP, capture_output=True, text=True).stdout.strip()
+    except OSError:
+        return ""
+
+
+def commit():
+    """The commit that is measured, and whether files differ from it, but for the results themselves."""
+    changed = git("status", "--porcelain", "--", ".", ":!bench/RESULTS.md", ":!bench/pictures")
+    return (git("rev-parse", "--short", "HEAD") or "unknown") + (" with changes" if changed else "")
+
+
 def made_by(options=""):
-    """Where, when by what version and how a section's numbers were measured."""
+    """How, when, of what commit, where and by what versions a section's numbers were measured."""
     rustc = subprocess.run(["rustc", "--version"], capture_output=True, text=True).stdout.strip()
     kit = subprocess.run(["rt", "version"], capture_output=True, text=True).stdout.strip()
-    return f"Made by `bench/run{options}` on {os.cpu_count()} cores ({processor()}), with {rustc} and {kit}."
+    where = f"on {os.cpu_count()} cores ({processor()}), with {rustc} and {kit}"
+    return f"Made by `bench/run{options}` on {datetime.date.today()} at commit {commit()}, {where}."
 
 
 def write_section(heading, text):

@@ -48,7 +48,7 @@ def tigerforest():
     """Proves and builds the program of this repository, and gives its path."""
     say("proving and building tigerforest")
     subprocess.run([TOP / "tigerforest", "run", TOP / "examples/first-transfer.script"], stdout=subprocess.DEVNULL, check=True)
-    return TOP / "crates/tigerforest/out/tigerforest"
+    return TOP / "out/tigerforest"
 
 
 def run(words):

@@ -1,4 +1,4 @@
-"""A store that one thread writes, one merges and others read: `shared` in crates/tf_ledger_bench, beside bench/src/sharing.rs."""
+"""A store that one thread writes, one merges and others read: `shared` in bench/proved/tf_ledger_bench, beside bench/src/sharing.rs."""
 import os
 import statistics
 import sys

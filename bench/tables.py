@@ -1,4 +1,4 @@
-"""The workloads of trees, tables, logs, rows of tables and scans: those of crates/tf_bench and of bench/src/main.rs."""
+"""The workloads of trees, tables, logs, rows of tables and scans: those of bench/proved/tf_bench and of bench/src/main.rs."""
 import statistics
 import sys
 

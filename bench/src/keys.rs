@@ -1,4 +1,4 @@
-//! Numbers, keys and values, made as `crates/tf_bench/src/keys.rt` makes them.
+//! Numbers, keys and values, made as `bench/proved/tf_bench/src/keys.rattle` makes them.
 
 /// A generator of numbers: the same from the same seed.
 pub struct Generator {
