@@ -72,13 +72,13 @@ pub fn row_of<'r, A: Allocator + Clone, N: Naming, R: Wait>(
     Ok(row)
 }
 
-/// The run that is to be merged next, merged.
+/// The run that is to be merged next, merged, if there is one and memory for it.
 pub fn merged<'r, A: Allocator + Clone, N: Naming>(
     alloc: A,
     row: &TreeRow<'r, A, N>,
-) -> Result<RowMerged<'r, u64, A, N>, Fail> {
-    let job = row.tables().pick().ok_or("no job")?;
-    Ok(job.merge(alloc)?)
+) -> Option<RowMerged<'r, u64, A, N>> {
+    let job = row.tables().pick()?;
+    job.merge(alloc).ok()
 }
 
 /// Installs a merged table, and tells what became of it.

@@ -197,5 +197,7 @@ fn one_row_of_two<N: Naming>(
 #[test]
 fn an_install_changes_one_row_of_its_kind(rt: HostRuntime) -> Result<(), Fail> {
     let registry = Registry::new(rt.alloc())?;
-    one_row_of_two::<Brand>(&rt, rt.alloc(), &registry)
+    let tried = one_row_of_two::<Brand>(&rt, rt.alloc(), &registry);
+    drop(registry);
+    tried
 }

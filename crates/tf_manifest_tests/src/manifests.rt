@@ -220,5 +220,7 @@ fn a_job_of_a_manifest_is_installed_once_under_its_limit_whatever_was_pushed(
     rt: HostRuntime,
 ) -> Result<(), Fail> {
     let registries = Registries::with_limit(rt.alloc(), 7)?;
-    in_turn::<Brand>(&rt, rt.alloc(), &registries)
+    let tried = in_turn::<Brand>(&rt, rt.alloc(), &registries);
+    drop(registries);
+    tried
 }

@@ -210,7 +210,7 @@ fn call_again<'h, N: Naming>(
         Call::Merge => merge_again(rt, &row, heap, room),
         Call::Push => push_again(rt, registry, &mut row, heap, store, room),
         Call::Install => {
-            let out = merged(store, &row)?;
+            let out = merged(store, &row).ok_or("no merge")?;
             install_again(rt, registry, &mut row, out, heap, room)
         }
     }
@@ -225,7 +225,9 @@ fn is_refused(
     let heap = LocalHeap::new(rt.alloc(), AMPLE)?;
     let store = LocalHeap::new(rt.alloc(), AMPLE)?;
     let registry = Registry::new(&heap)?;
-    call_again::<Brand>(rt, &registry, &heap, &store, call, room)
+    let tried = call_again::<Brand>(rt, &registry, &heap, &store, call, room);
+    drop(registry);
+    tried
 }
 
 /// The least room with which a call succeeds, after a refusal with each smaller one.

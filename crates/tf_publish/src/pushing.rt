@@ -47,7 +47,10 @@ fn make_room<'r, R: Wait, A: Allocator + Copy, N: Naming>(
     };
     match next.install(rt, merged) {
         Ok(()) => Ok(()),
-        Err(Uninstalled::NoMemory(_)) => Err(Refusal::NoMemory),
+        Err(Uninstalled::NoMemory(merged)) => {
+            drop(merged);
+            Err(Refusal::NoMemory)
+        }
         Err(Uninstalled::Stale) => unreachable!(),
         Err(Uninstalled::RegistryFull) => unreachable!(),
     }

@@ -15,8 +15,6 @@ mod query_filter;
 mod refusal;
 mod reply;
 mod sums;
-#[cfg(test)]
-mod tests;
 mod transfer;
 
 pub use account::Account;

@@ -16,8 +16,6 @@ mod prefix;
 mod rows;
 mod run;
 mod scan;
-#[cfg(test)]
-mod tests;
 mod turn;
 
 pub use direction::Direction;

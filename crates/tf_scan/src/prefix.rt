@@ -87,6 +87,15 @@ impl<'r, V: RowValue, A: Allocator> Prefix<'r, V, A> {
             turn,
         }
     }
+
+    /// How many of its tables weren't searched yet, and may have something. Any answer is right: it tells what the prefix costs.
+    pub fn unsearched(&self) -> usize {
+        let places = self.places.as_slice();
+        places
+            .iter()
+            .filter(|place| matches!(place, Place::Closed(..)))
+            .count()
+    }
 }
 
 impl<'r, V, A: Allocator> Leaf for Prefix<'r, V, A> {

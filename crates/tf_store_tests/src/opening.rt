@@ -73,12 +73,28 @@ where
     );
     match opened {
         Ok((store, shares, mut readers)) => {
-            let readers = readers.as_mut_slice();
-            {
-                let mut store = store;
-                with_store(rt, alloc, heap, &mut store, shares, readers, trial)?;
+            let mut store = store;
+            let tried = with_store(
+                rt,
+                alloc,
+                heap,
+                &mut store,
+                shares,
+                readers.as_mut_slice(),
+                trial,
+            );
+            store.close();
+            match tried {
+                Ok(()) => {
+                    let closed = assert_closed(rt, readers.as_mut_slice());
+                    drop(readers);
+                    closed
+                }
+                Err(fail) => {
+                    drop(readers);
+                    Err(fail)
+                }
             }
-            assert_closed(rt, readers)
         }
         Err(refusal) => {
             assert!(rt; trial.lacks_memory());
@@ -174,7 +190,9 @@ fn on_heap(
     trial: Trial,
 ) -> Result<(), Fail> {
     let registries = Registries::with_limit(heap, trial.limit())?;
-    with_registries(rt, heap, &registries, trial)
+    let tried = with_registries(rt, heap, &registries, trial);
+    drop(registries);
+    tried
 }
 
 /// Runs a trial on an empty store. Once the store and its registries are dropped, its heap is free again.

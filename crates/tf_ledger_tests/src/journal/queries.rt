@@ -1,6 +1,7 @@
-//! The queries of an empty ledger, and their refusals.
+//! Queries and look-ups that want no memory.
 
 use linked_list_allocator::LocalHeap;
+use std::alloc::{Allocator, Global};
 use std::test::Fail;
 use tf_journal::{
     PlainLedger, get_account_balances, get_account_transfers, lookup_accounts, lookup_transfers,
@@ -38,22 +39,26 @@ fn of_all(limit: u32, flags: u32) -> QueryFilter {
     }
 }
 
-#[test]
-fn filters_find_nothing_in_an_empty_ledger(rt: HostRuntime) -> Result<(), Fail> {
-    let ledger = PlainLedger::new(rt.alloc());
-    for limit in [0, 1, 8_190, 8_191, u32::MAX] {
-        for flags in [3, 7, 8] {
-            let filter = of_account(limit, flags);
-            assert!(rt; get_account_transfers(rt.alloc(), &ledger, &filter)?.is_empty());
-            assert!(rt; get_account_balances(rt.alloc(), &ledger, &filter)?.is_empty());
-        }
-        for flags in [0, 1, 2] {
-            let filter = of_all(limit, flags);
-            assert!(rt; query_accounts(rt.alloc(), &ledger, &filter)?.is_empty());
-            assert!(rt; query_transfers(rt.alloc(), &ledger, &filter)?.is_empty());
-        }
-    }
-    Ok(())
+/// Whether an account has no transfers and no balances.
+fn finds_no_transfers(
+    heap: &LocalHeap,
+    ledger: &PlainLedger<Global>,
+    filter: &AccountFilter,
+) -> Result<bool, Refusal> {
+    let transfers = get_account_transfers(heap, ledger, filter)?.len();
+    let balances = get_account_balances(heap, ledger, filter)?.len();
+    Ok((transfers, balances) == (0, 0))
+}
+
+/// Whether there are no accounts and no transfers.
+fn finds_no_records(
+    heap: &LocalHeap,
+    ledger: &PlainLedger<Global>,
+    filter: &QueryFilter,
+) -> Result<bool, Refusal> {
+    let accounts = query_accounts(heap, ledger, filter)?.len();
+    let transfers = query_transfers(heap, ledger, filter)?.len();
+    Ok((accounts, transfers) == (0, 0))
 }
 
 /// A heap with no room: an invalid filter needs none.
@@ -61,28 +66,40 @@ fn filters_find_nothing_in_an_empty_ledger(rt: HostRuntime) -> Result<(), Fail> 
 fn invalid_filters_are_answered_without_memory(rt: HostRuntime) -> Result<(), Fail> {
     let heap = LocalHeap::new(rt.alloc(), 64)?;
     let ledger = PlainLedger::new(rt.alloc());
-    let no_sides = of_account(10, 4);
-    assert!(rt; get_account_transfers(&heap, &ledger, &no_sides)?.is_empty());
-    assert!(rt; get_account_balances(&heap, &ledger, &no_sides)?.is_empty());
-    let no_limit = of_all(0, 0);
-    assert!(rt; query_accounts(&heap, &ledger, &no_limit)?.is_empty());
-    assert!(rt; query_transfers(&heap, &ledger, &no_limit)?.is_empty());
+    let of_no_side = finds_no_transfers(&heap, &ledger, &of_account(10, 4));
+    let of_no_limit = finds_no_records(&heap, &ledger, &of_all(0, 0));
+    drop(ledger);
+    drop(heap);
+    assert_eq!(rt; (of_no_side, of_no_limit), (Ok(true), Ok(true)));
     Ok(())
+}
+
+/// How many accounts and how many transfers have these ids.
+fn look_up<A: Allocator + Copy>(
+    alloc: A,
+    ledger: &PlainLedger<Global>,
+    ids: &[u128],
+) -> (Result<usize, Refusal>, Result<usize, Refusal>) {
+    (
+        lookup_accounts(alloc, ledger, ids).map(|accounts| accounts.len()),
+        lookup_transfers(alloc, ledger, ids).map(|transfers| transfers.len()),
+    )
 }
 
 /// Too many ids are refused before memory is asked for.
 #[test]
 fn look_ups_take_8190_ids(rt: HostRuntime) -> Result<(), Fail> {
+    let ids = vec![in rt.alloc(); 1u128; 8_191]?;
     let heap = LocalHeap::new(rt.alloc(), 64)?;
     let ledger = PlainLedger::new(rt.alloc());
-    let ids = vec![in rt.alloc(); 1u128; 8_191]?;
-    let refused = Some(Refusal::BatchTooLarge);
-    assert_eq!(rt; lookup_accounts(&heap, &ledger, &ids).err(), refused);
-    assert_eq!(rt; lookup_transfers(&heap, &ledger, &ids).err(), refused);
-    let most = &ids[..8_190];
-    assert!(rt; lookup_accounts(rt.alloc(), &ledger, most)?.is_empty());
-    assert!(rt; lookup_transfers(rt.alloc(), &ledger, most)?.is_empty());
-    assert!(rt; lookup_accounts(&heap, &ledger, &[])?.is_empty());
-    assert!(rt; lookup_transfers(&heap, &ledger, &[])?.is_empty());
+    let too_many = look_up(&heap, &ledger, &ids);
+    let most = look_up(rt.alloc(), &ledger, &ids[..8_190]);
+    let none = look_up(&heap, &ledger, &[]);
+    drop(ledger);
+    drop(heap);
+    drop(ids);
+    let refused = Err(Refusal::BatchTooLarge);
+    assert_eq!(rt; too_many, (refused, refused));
+    assert_eq!(rt; (most, none), ((Ok(0), Ok(0)), (Ok(0), Ok(0))));
     Ok(())
 }

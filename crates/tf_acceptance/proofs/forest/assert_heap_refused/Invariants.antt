@@ -1,0 +1,5 @@
+use Rattle.tf_manifest.specs.Registries.{shelf_of}
+use Rattle.tf_acceptance.proofs.forest.assert_heap_refused.Given as goal
+
+abbrev pub ghosts-assert_random_refused : goal.ghosts-assert_random_refused
+ghosts-assert_random_refused g a = record { shelf = shelf_of a.registries.now }

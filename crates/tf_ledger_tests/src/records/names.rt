@@ -1,0 +1,147 @@
+//! Each result by its name.
+
+use tf_records::Outcome;
+
+const OUTCOMES: [Outcome; 65] = [
+    Outcome::TimestampMustBeZero,
+    Outcome::ReservedField,
+    Outcome::ReservedFlag,
+    Outcome::IdMustNotBeZero,
+    Outcome::IdMustNotBeIntMax,
+    Outcome::FlagsAreMutuallyExclusive,
+    Outcome::DebitsPendingMustBeZero,
+    Outcome::DebitsPostedMustBeZero,
+    Outcome::CreditsPendingMustBeZero,
+    Outcome::CreditsPostedMustBeZero,
+    Outcome::LedgerMustNotBeZero,
+    Outcome::CodeMustNotBeZero,
+    Outcome::DebitAccountIdMustNotBeZero,
+    Outcome::DebitAccountIdMustNotBeIntMax,
+    Outcome::CreditAccountIdMustNotBeZero,
+    Outcome::CreditAccountIdMustNotBeIntMax,
+    Outcome::AccountsMustBeDifferent,
+    Outcome::PendingIdMustBeZero,
+    Outcome::TimeoutReservedForPendingTransfer,
+    Outcome::DebitAccountNotFound,
+    Outcome::CreditAccountNotFound,
+    Outcome::AccountsMustHaveTheSameLedger,
+    Outcome::TransferMustHaveTheSameLedgerAsAccounts,
+    Outcome::OverflowsDebitsPending,
+    Outcome::OverflowsCreditsPending,
+    Outcome::OverflowsDebitsPosted,
+    Outcome::OverflowsCreditsPosted,
+    Outcome::OverflowsDebits,
+    Outcome::OverflowsCredits,
+    Outcome::OverflowsTimeout,
+    Outcome::ExceedsCredits,
+    Outcome::ExceedsDebits,
+    Outcome::PendingIdMustNotBeZero,
+    Outcome::PendingIdMustNotBeIntMax,
+    Outcome::PendingIdMustBeDifferent,
+    Outcome::PendingTransferNotFound,
+    Outcome::PendingTransferNotPending,
+    Outcome::PendingTransferHasDifferentDebitAccountId,
+    Outcome::PendingTransferHasDifferentCreditAccountId,
+    Outcome::PendingTransferHasDifferentLedger,
+    Outcome::PendingTransferHasDifferentCode,
+    Outcome::ExceedsPendingTransferAmount,
+    Outcome::PendingTransferHasDifferentAmount,
+    Outcome::PendingTransferAlreadyPosted,
+    Outcome::PendingTransferAlreadyVoided,
+    Outcome::PendingTransferExpired,
+    Outcome::ExistsWithDifferentFlags,
+    Outcome::ExistsWithDifferentUserData128,
+    Outcome::ExistsWithDifferentUserData64,
+    Outcome::ExistsWithDifferentUserData32,
+    Outcome::ExistsWithDifferentLedger,
+    Outcome::ExistsWithDifferentCode,
+    Outcome::ExistsWithDifferentPendingId,
+    Outcome::ExistsWithDifferentDebitAccountId,
+    Outcome::ExistsWithDifferentCreditAccountId,
+    Outcome::ExistsWithDifferentAmount,
+    Outcome::ExistsWithDifferentTimeout,
+    Outcome::Exists,
+    Outcome::ClosingTransferMustBePending,
+    Outcome::DebitAccountAlreadyClosed,
+    Outcome::CreditAccountAlreadyClosed,
+    Outcome::IdAlreadyFailed,
+    Outcome::LinkedEventFailed,
+    Outcome::LinkedEventChainOpen,
+    Outcome::Ok,
+];
+
+/// Their names in the reference, in the same order.
+const NAMES: &str = "\
+timestamp_must_be_zero
+reserved_field
+reserved_flag
+id_must_not_be_zero
+id_must_not_be_int_max
+flags_are_mutually_exclusive
+debits_pending_must_be_zero
+debits_posted_must_be_zero
+credits_pending_must_be_zero
+credits_posted_must_be_zero
+ledger_must_not_be_zero
+code_must_not_be_zero
+debit_account_id_must_not_be_zero
+debit_account_id_must_not_be_int_max
+credit_account_id_must_not_be_zero
+credit_account_id_must_not_be_int_max
+accounts_must_be_different
+pending_id_must_be_zero
+timeout_reserved_for_pending_transfer
+debit_account_not_found
+credit_account_not_found
+accounts_must_have_the_same_ledger
+transfer_must_have_the_same_ledger_as_accounts
+overflows_debits_pending
+overflows_credits_pending
+overflows_debits_posted
+overflows_credits_posted
+overflows_debits
+overflows_credits
+overflows_timeout
+exceeds_credits
+exceeds_debits
+pending_id_must_not_be_zero
+pending_id_must_not_be_int_max
+pending_id_must_be_different
+pending_transfer_not_found
+pending_transfer_not_pending
+pending_transfer_has_different_debit_account_id
+pending_transfer_has_different_credit_account_id
+pending_transfer_has_different_ledger
+pending_transfer_has_different_code
+exceeds_pending_transfer_amount
+pending_transfer_has_different_amount
+pending_transfer_already_posted
+pending_transfer_already_voided
+pending_transfer_expired
+exists_with_different_flags
+exists_with_different_user_data_128
+exists_with_different_user_data_64
+exists_with_different_user_data_32
+exists_with_different_ledger
+exists_with_different_code
+exists_with_different_pending_id
+exists_with_different_debit_account_id
+exists_with_different_credit_account_id
+exists_with_different_amount
+exists_with_different_timeout
+exists
+closing_transfer_must_be_pending
+debit_account_already_closed
+credit_account_already_closed
+id_already_failed
+linked_event_failed
+linked_event_chain_open
+ok";
+
+#[test]
+fn outcomes_have_the_names_of_the_reference(rt: HostRuntime) {
+    for (outcome, name) in OUTCOMES.iter().zip(NAMES.lines()) {
+        assert_eq!(rt; outcome.name(), name);
+    }
+    assert_eq!(rt; NAMES.lines().count(), OUTCOMES.len());
+}
