@@ -19,18 +19,25 @@ def first_line(path):
 
 
 def said_by(tool, *words):
-    """The exit status of one of the tools, what it said on standard output, and what it said beside that."""
+    """The exit status of a program in Python, what it said on standard output, and what it said beside that."""
     how = {"stdin": subprocess.DEVNULL, "stdout": subprocess.PIPE, "stderr": subprocess.PIPE, "universal_newlines": True}
-    ran = subprocess.run([sys.executable, str(TOP / "tools" / tool), *words], **how)
+    ran = subprocess.run([sys.executable, str(TOP / tool), *words], **how)
     return ran.returncode, ran.stdout.strip(), ran.stderr.strip()
 
 
 def recipes():
     """Each recipe is a script and its output, and the crates that run recipes have equal copies."""
     if COPIES.is_dir():
-        status, said, beside = said_by("examples", "--check")
+        status, said, beside = said_by("tools/examples", "--check")
         if status:
             yield from (said or beside).splitlines()
+
+
+def service():
+    """The example that runs the program from another one reads what it prints."""
+    status, _, beside = said_by("examples/test_payment_service.py")
+    if status:
+        yield beside
 
 
 def python():
@@ -62,12 +69,12 @@ def shell():
 
 def launcher():
     """./tigerforest does what it says, over a toolchain that is made up."""
-    status, said, beside = said_by("test_launcher")
+    status, said, beside = said_by("tools/test_launcher")
     if status:
         yield f"{(said or beside).splitlines()[-1]}: tools/test_launcher shows how"
 
 
 def stale_records():
     """The lines of tools/must-fail on edits that have to be tried again."""
-    status, said, _ = said_by("must-fail", "--stale")
+    status, said, _ = said_by("tools/must-fail", "--stale")
     return said.splitlines() if status == 0 else []
