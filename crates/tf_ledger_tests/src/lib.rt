@@ -1,5 +1,5 @@
-//! Tests of records, of the journal, of pending transfers, of batches and of the script language, by public calls alone.
-//! There is no code here beside them. What a script can ask is asked by worked scripts instead.
+//! Tests of the journal, of pending transfers and of batches, by public calls alone. There is no code here beside them. What
+//! a script can ask is asked by worked scripts instead.
 #![tactic(auto)]
 
 #[cfg(test)]
@@ -11,10 +11,6 @@ mod ledgers;
 #[cfg(test)]
 mod pending;
 #[cfg(test)]
-mod records;
-#[cfg(test)]
 mod samples;
-#[cfg(test)]
-mod script;
 #[cfg(test)]
 mod tables;

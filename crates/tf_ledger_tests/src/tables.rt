@@ -1,36 +1,9 @@
 //! Tables of cases as one text, a line a case.
 
-use std::alloc::{AllocError, Allocator, Global};
+use std::alloc::Global;
 use std::process::Abort;
 use tf_records::{Account, Refusal, Transfer};
 use tf_script::{Command, Query, parse};
-
-/// The bytes of a text in which `\n`, `\r`, `\t` and `\s` stand for a line feed, a carriage return, a tab and a space.
-pub fn unescaped<A: Allocator>(alloc: A, text: &str) -> Result<Vec<u8, A>, AllocError> {
-    let mut bytes = Vec::new(alloc);
-    let mut escaped = false;
-    for byte in text.as_bytes() {
-        if escaped {
-            bytes.push(escaped_byte(*byte))?;
-            escaped = false;
-        } else if *byte == b'\\' {
-            escaped = true;
-        } else {
-            bytes.push(*byte)?;
-        }
-    }
-    Ok(bytes)
-}
-
-fn escaped_byte(letter: u8) -> u8 {
-    match letter {
-        b'n' => b'\n',
-        b'r' => b'\r',
-        b't' => b'\t',
-        b's' => b' ',
-        other => other,
-    }
-}
 
 /// The first word of a line, and what stands behind the space after it.
 pub fn first_word(line: &str) -> (&str, &str) {

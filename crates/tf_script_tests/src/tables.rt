@@ -1,0 +1,41 @@
+//! Tables of cases as one text, a line a case.
+
+use std::alloc::{AllocError, Allocator};
+use std::process::Abort;
+
+/// The bytes of a text in which `\n`, `\r`, `\t` and `\s` stand for a line feed, a carriage return, a tab and a space.
+pub fn unescaped<A: Allocator>(alloc: A, text: &str) -> Result<Vec<u8, A>, AllocError> {
+    let mut bytes = Vec::new(alloc);
+    let mut escaped = false;
+    for byte in text.as_bytes() {
+        if escaped {
+            bytes.push(escaped_byte(*byte))?;
+            escaped = false;
+        } else if *byte == b'\\' {
+            escaped = true;
+        } else {
+            bytes.push(*byte)?;
+        }
+    }
+    Ok(bytes)
+}
+
+fn escaped_byte(letter: u8) -> u8 {
+    match letter {
+        b'n' => b'\n',
+        b'r' => b'\r',
+        b't' => b'\t',
+        b's' => b' ',
+        other => other,
+    }
+}
+
+/// The first word of a line, and what stands behind the space after it.
+pub fn first_word(line: &str) -> (&str, &str) {
+    line.split_once(' ').unwrap_or((line, ""))
+}
+
+/// The number that a word of a table spells.
+pub fn number(rt: &impl Abort, word: &str) -> u64 {
+    word.parse::<u64>().expect(rt, "a number in a table")
+}
