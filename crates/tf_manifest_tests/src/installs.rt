@@ -176,10 +176,11 @@ fn change_and_take_back<N: Naming>(
     rt: &impl Abort,
     row: &mut TreeRow<'_, Global, N>,
 ) -> Result<(), Fail> {
-    let before = row.put(key(2), None)?;
+    let two = key(2);
+    let before = row.put(two, None)?;
     assert_eq!(rt; before, None);
     assert_tombstone(rt, row);
-    row.take_back(&key(2), before);
+    row.take_back(&two, before);
     assert_taken_back(rt, row);
     Ok(())
 }

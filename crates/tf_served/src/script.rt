@@ -59,19 +59,14 @@ fn run_with_registries<R: Wait, A: Allocator + Copy + Drop, B: Allocator, W: Wri
     ensures fault { IfErr result (StopsServing (commands_of commands.now) (W.contents out.old) (W.contents out.new)) }
 {
     match Registries::new(alloc) {
-        Ok(registries) => {
-            let blank = BlankStore::new(1);
-            let ended = run_named::<Brand, R, A, B, W>(
-                rt,
-                alloc,
-                &registries,
-                blank,
-                commands,
-                out,
-            );
-            drop(registries);
-            ended
-        }
+        Ok(registries) => run_named::<Brand, R, A, B, W>(
+            rt,
+            alloc,
+            &registries,
+            BlankStore::new(1),
+            commands,
+            out,
+        ),
         Err(_) => Err(RunFault::NoMemory),
     }
 }
@@ -158,12 +153,9 @@ where
         alloc, rt, registries, blank, 1, 1,
     );
     match opened {
-        Ok((store, shares, readers)) => {
+        Ok((store, shares, _readers)) => {
             let mut store = store;
-            let ended = serve(rt, alloc, &mut store, shares, commands, out);
-            store.close();
-            drop(readers);
-            ended
+            serve(rt, alloc, &mut store, shares, commands, out)
         }
         Err(_) => Err(RunFault::NoMemory),
     }

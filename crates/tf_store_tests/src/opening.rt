@@ -73,28 +73,12 @@ where
     );
     match opened {
         Ok((store, shares, mut readers)) => {
-            let mut store = store;
-            let tried = with_store(
-                rt,
-                alloc,
-                heap,
-                &mut store,
-                shares,
-                readers.as_mut_slice(),
-                trial,
-            );
-            store.close();
-            match tried {
-                Ok(()) => {
-                    let closed = assert_closed(rt, readers.as_mut_slice());
-                    drop(readers);
-                    closed
-                }
-                Err(fail) => {
-                    drop(readers);
-                    Err(fail)
-                }
+            let readers = readers.as_mut_slice();
+            {
+                let mut store = store;
+                with_store(rt, alloc, heap, &mut store, shares, readers, trial)?;
             }
+            assert_closed(rt, readers)
         }
         Err(refusal) => {
             assert!(rt; trial.lacks_memory());
@@ -190,9 +174,7 @@ fn on_heap(
     trial: Trial,
 ) -> Result<(), Fail> {
     let registries = Registries::with_limit(heap, trial.limit())?;
-    let tried = with_registries(rt, heap, &registries, trial);
-    drop(registries);
-    tried
+    with_registries(rt, heap, &registries, trial)
 }
 
 /// Runs a trial on an empty store. Once the store and its registries are dropped, its heap is free again.
