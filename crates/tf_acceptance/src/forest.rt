@@ -13,6 +13,12 @@ ghost use Rattle.tf_manifest.specs.Registries.{AreShelves};
 
 use crate::memory::AMPLE;
 use crate::random;
+use crate::rows::Row;
+use crate::rows::batches::BATCHES;
+use crate::rows::clients::CLIENTS;
+use crate::rows::pending::PENDING;
+use crate::rows::queries::QUERIES;
+use crate::rows::recipes::RECIPES;
 use commands::assert_commands_alike;
 use linked_list_allocator::LocalHeap;
 use refusals::assert_refusals_change_nothing;
@@ -25,7 +31,7 @@ use tf_journal::PlainLedger;
 use tf_manifest::{Naming, Registries};
 use tf_publish::Rows;
 use tf_rows::{AllRows, MutableRows, MutableTables};
-use tf_script::Command;
+use tf_script::{Command, parse};
 
 /// The rows of a forest that lies on the global heap.
 pub type GlobalRows<'r, N> = Rows<'r, MutableTables<Global>, Global, N>;
@@ -44,7 +50,6 @@ fn assert_forest_alike<S: AllRows + Drop>(
     let mut plain = PlainLedger::new(rt.alloc());
     let mut forest = Forest::new(rt.alloc(), rows);
     assert_commands_alike(rt, &mut plain, &mut forest, commands);
-    drop(forest);
 }
 
 fn assert_rows_alike<'r, T: MutableRows + Drop, A: Allocator + Copy, N: Naming>(
@@ -69,6 +74,21 @@ fn assert_alike_from_nothing<N: Naming>(
     assert_rows_alike(rt, rows, commands);
 }
 
+/// Both answer each of these scripts alike.
+fn assert_scripts_alike<N: Naming>(
+    rt: &(impl Abort + AllocGlobal),
+    registries: &Registries<Global>,
+    rows: &[Row],
+) -> Result<(), Fail>
+    requires { AreShelves N.shelf registries.now }
+{
+    for row in rows {
+        let commands = parse(rt.alloc(), row.script.as_bytes())?;
+        assert_alike_from_nothing::<N>(rt, registries, commands.as_slice());
+    }
+    Ok(())
+}
+
 /// Both answer 2,000 random batches and pulses alike: 100 times from nothing.
 fn assert_random_alike<N: Naming>(
     rt: &(impl Abort + AllocGlobal),
@@ -83,12 +103,25 @@ fn assert_random_alike<N: Naming>(
     Ok(())
 }
 
+/// Both answer all worked scripts and the random commands alike.
+fn assert_all_alike<N: Naming>(
+    rt: &(impl Abort + AllocGlobal),
+    registries: &Registries<Global>,
+) -> Result<(), Fail>
+    requires { AreShelves N.shelf registries.now }
+{
+    assert_scripts_alike::<N>(rt, registries, &BATCHES)?;
+    assert_scripts_alike::<N>(rt, registries, &PENDING)?;
+    assert_scripts_alike::<N>(rt, registries, &QUERIES)?;
+    assert_scripts_alike::<N>(rt, registries, &CLIENTS)?;
+    assert_scripts_alike::<N>(rt, registries, &RECIPES)?;
+    assert_random_alike::<N>(rt, registries)
+}
+
 #[test]
 fn a_forest_answers_as_the_plain_ledger_does(rt: HostRuntime) -> Result<(), Fail> {
     let registries = Registries::new(rt.alloc())?;
-    let outcome = assert_random_alike::<Brand>(&rt, &registries);
-    drop(registries);
-    outcome
+    assert_all_alike::<Brand>(&rt, &registries)
 }
 
 /// A forest over these rows and an empty plain ledger answer commands alike, though the forest's heap refuses memory first.
@@ -102,9 +135,7 @@ fn assert_forest_refused<S: AllRows + Drop>(
 {
     let mut plain = PlainLedger::new(rt.alloc());
     let mut forest = Forest::new(heap, rows);
-    let outcome = assert_refusals_change_nothing(rt, heap, &mut plain, &mut forest, commands);
-    drop(forest);
-    outcome
+    assert_refusals_change_nothing(rt, heap, &mut plain, &mut forest, commands)
 }
 
 fn assert_rows_refused<'r, T: MutableRows + Drop, A: Allocator + Copy, N: Naming>(
@@ -148,16 +179,9 @@ fn assert_random_refused<'h, N: Naming>(
     Ok(())
 }
 
-/// Refuses memory to an empty forest with registries of its own.
-fn assert_heap_refused(rt: &(impl Abort + AllocGlobal), heap: &LocalHeap) -> Result<(), Fail> {
-    let registries = Registries::new(heap)?;
-    let outcome = assert_random_refused::<Brand>(rt, heap, &registries);
-    drop(registries);
-    outcome
-}
-
 #[test]
 fn a_forest_that_was_refused_memory_is_as_before(rt: HostRuntime) -> Result<(), Fail> {
     let heap = LocalHeap::new(rt.alloc(), AMPLE)?;
-    assert_heap_refused(&rt, &heap)
+    let registries = Registries::new(&heap)?;
+    assert_random_refused::<Brand>(&rt, &heap, &registries)
 }

@@ -11,6 +11,7 @@ mod merges;
 mod parts;
 mod publishing;
 mod refusals;
+mod scripts;
 mod stays;
 
 ghost use Rattle.tf_acceptance.specs.Rest.{IsAtRest};
@@ -25,6 +26,7 @@ use many::assert_many_answered;
 use parts::assert_parts_answered;
 use publishing::Sealing;
 use refusals::assert_refused_in_turn;
+use scripts::assert_script_answered;
 use stays::assert_version_stays;
 use std::alloc::{Allocator, Global};
 use std::marker::{Brand, Send, Sync};
@@ -42,6 +44,8 @@ use tf_rows::SealRows;
 enum Trial {
     /// One is kept while the forest goes on.
     Stays,
+    /// Those of a worked script.
+    Scripts,
     /// Those of a random journal.
     Journals,
     /// Many filters at once.
@@ -62,6 +66,7 @@ impl Trial {
         match self {
             Trial::Stays | Trial::Many | Trial::Parts | Trial::Refusals => 1,
             Trial::Bounds | Trial::Limit(_) => 1,
+            Trial::Scripts => scripts::COUNT,
             Trial::Journals => 2000,
         }
     }
@@ -90,6 +95,7 @@ where
 {
     match trial {
         Trial::Stays => assert_version_stays(rt, alloc, forest),
+        Trial::Scripts => assert_script_answered(rt, forest, turn),
         Trial::Journals => assert_journal_answered(rt, alloc, forest, turn as u64),
         Trial::Many => assert_many_answered(rt, forest),
         Trial::Parts => assert_parts_answered(rt, forest),
@@ -113,9 +119,7 @@ where
     requires { AreEmpty (parts_of (F.entries rows.fresh) rows.published.tables) }
 {
     let mut forest = Forest::new(alloc, rows);
-    let outcome = try_forest(rt, alloc, &mut forest, trial, turn);
-    drop(forest);
-    outcome
+    try_forest(rt, alloc, &mut forest, trial, turn)
 }
 
 /// Each turn of a trial, with rows that have nothing.
@@ -139,14 +143,17 @@ fn try_out(
     trial: Trial,
 ) -> Result<(), Fail> {
     let registries = Registries::with_limit(rt.alloc(), trial.limit())?;
-    let outcome = try_each::<Brand>(rt, &registries, trial);
-    drop(registries);
-    outcome
+    try_each::<Brand>(rt, &registries, trial)
 }
 
 #[test]
 fn a_version_stays_whatever_is_published_and_merged_later(rt: HostRuntime) -> Result<(), Fail> {
     try_out(&rt, Trial::Stays)
+}
+
+#[test]
+fn versions_answer_scripts_as_the_plain_ledger_does(rt: HostRuntime) -> Result<(), Fail> {
+    try_out(&rt, Trial::Scripts)
 }
 
 #[test]

@@ -169,6 +169,5 @@ pub fn assert_parts_answered<'r, F: SealRows<A> + Drop, A: Allocator + Copy, N: 
         assert!(rt; 0 < low && low <= high);
         assert_limits_answered(rt, &version, &plain, low, high);
     }
-    drop(version);
     Ok(())
 }

@@ -4,11 +4,10 @@ ghost use Rattle.tf_journal.specs.Lawful.{IsLawful, IsLawfulAt};
 ghost use Rattle.tf_manifest.specs.View.{ShowsJournal};
 ghost use Rattle.tf_query.specs.Version.{ShowsLawfulJournal};
 
-use super::asking::assert_answers;
+use super::asking::assert_answer;
 use crate::answers::{Answer, run};
 use std::alloc::{Allocator, Global};
 use std::process::Abort;
-use std::slice;
 use std::sync::Wait;
 use std::test::Fail;
 use tf_forest::Forest;
@@ -60,22 +59,6 @@ pub fn publish_again<'r, F: SealRows<A> + Drop, A: Allocator + Copy, N: Naming>(
     Ok(())
 }
 
-/// Publishes a forest, of which a version answers as the plain ledger does. Tells how many rows the answers have.
-pub fn assert_published<'r, F: SealRows<A> + Drop, A: Allocator + Copy, N: Naming, B: Allocator>(
-    rt: &(impl Abort + AllocGlobal + Wait),
-    forest: &mut Sealing<'r, F, A, N>,
-    plain: &PlainLedger<Global>,
-    questions: &[Command<B>],
-) -> Result<usize, Fail>
-    requires { IsAtRest forest.old.journal forest.old.clock forest.old.kept }
-    ensures { IsAtRest forest.new.journal forest.new.clock forest.new.kept }
-{
-    let version = publish(rt, forest)?;
-    let rows = assert_answers(rt, &version, plain, questions);
-    drop(version);
-    Ok(rows)
-}
-
 /// Runs a batch or a pulse on a forest, and no other command. It knows its rows by what they can do alone: at sealed tables,
 /// which are many types deep, a call of what is generic in ledgers would compare the whole forest's layout.
 pub fn run_on_forest<R: AllRows + Drop, A: Allocator + Copy, B: Allocator>(
@@ -106,7 +89,8 @@ pub fn run_published<'r, F: SealRows<A> + Drop, A: Allocator + Copy, N: Naming, 
         let expected = run(rt.alloc(), plain, command);
         let answer = run_on_forest(rt.alloc(), forest, command);
         assert!(rt; answer.is_same(&expected));
-        let _rows = assert_published(rt, forest, plain, slice::from_ref(command))?;
+        let version = publish(rt, forest)?;
+        let _rows = assert_answer(rt, &version, plain, command);
     }
     Ok(())
 }

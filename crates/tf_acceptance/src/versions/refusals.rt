@@ -145,16 +145,6 @@ fn assert_cases<A: Allocator, N: Naming>(
     Ok(())
 }
 
-/// All queries and look-ups.
-fn assert_all_cases<A: Allocator, N: Naming>(
-    rt: &(impl Abort + AllocGlobal),
-    version: &Version<'_, A, N>,
-    plain: &PlainLedger<Global>,
-) -> Result<(), Fail> {
-    assert_cases(rt, version, plain, &query_cases())?;
-    assert_cases(rt, version, plain, &look_up_cases(rt.alloc())?)
-}
-
 /// A version of a random journal is refused memory in turn for each query and look-up.
 pub fn assert_refused_in_turn<'r, F: SealRows<A> + Drop, A: Allocator + Copy, N: Naming>(
     rt: &(impl Abort + AllocGlobal + Wait),
@@ -166,7 +156,6 @@ pub fn assert_refused_in_turn<'r, F: SealRows<A> + Drop, A: Allocator + Copy, N:
     let commands = random::commands(rt.alloc(), 5, 30)?;
     run_published(rt, &mut plain, forest, commands.as_slice())?;
     let version = publish(rt, forest)?;
-    let outcome = assert_all_cases(rt, &version, &plain);
-    drop(version);
-    outcome
+    assert_cases(rt, &version, &plain, &query_cases())?;
+    assert_cases(rt, &version, &plain, &look_up_cases(rt.alloc())?)
 }

@@ -1,11 +1,10 @@
 //! A version that is kept while its forest goes on.
 ghost use Rattle.tf_acceptance.specs.Rest.{IsAtRest};
-ghost use Rattle.tf_journal.specs.Lawful.{IsLawfulAt};
 
 use super::asking::assert_answers;
 use super::filters::questions;
 use super::merges::merge_all;
-use super::publishing::{Sealing, assert_published, publish, run_published};
+use super::publishing::{Sealing, publish, run_published};
 use crate::answers::run;
 use crate::dice::Dice;
 use crate::random;
@@ -13,9 +12,8 @@ use std::alloc::{Allocator, Global};
 use std::process::Abort;
 use std::sync::Wait;
 use std::test::Fail;
-use tf_journal::{Ledger, PlainLedger};
+use tf_journal::PlainLedger;
 use tf_manifest::Naming;
-use tf_query::Version;
 use tf_records::{Refusal, Transfer};
 use tf_rows::SealRows;
 use tf_script::Command;
@@ -50,31 +48,6 @@ fn further_batches(alloc: Global, dice: &mut Dice) -> Result<[Command<Global>; 4
     ])
 }
 
-/// Publishes four batches more and merges all rows. The version then still answers as the plain ledger did then, and a new
-/// one as it does now.
-fn assert_goes_on<'r, F: SealRows<A> + Drop, A: Allocator + Copy, N: Naming>(
-    rt: &(impl Abort + AllocGlobal + Wait),
-    alloc: A,
-    forest: &mut Sealing<'r, F, A, N>,
-    version: &Version<'r, A, N>,
-    then: &PlainLedger<Global>,
-    now: &mut PlainLedger<Global>,
-    dice: &mut Dice,
-) -> Result<(), Fail>
-    requires now { IsLawfulAt (⟦<PlainLedger<Global> as Ledger>⟧.clock now.old) (⟦<PlainLedger<Global> as Ledger>⟧.journal now.old) }
-    requires forest { IsAtRest forest.old.journal forest.old.clock forest.old.kept }
-    ensures { IsAtRest forest.new.journal forest.new.clock forest.new.kept }
-{
-    run_published(rt, now, forest, &further_batches(rt.alloc(), dice)?)?;
-    let merges = merge_all(rt, alloc, forest)?;
-    assert!(rt; merges >= 10);
-    let asked = questions(rt.alloc(), dice, now, 400)?;
-    let rows = assert_answers(rt, version, then, asked.as_slice());
-    let later = assert_published(rt, forest, now, asked.as_slice())?;
-    assert!(rt; rows > 100 && later > 1000, "{rows} rows and {later}");
-    Ok(())
-}
-
 /// A version that was taken after the first transfer answers as the plain ledger did then, once four batches more were
 /// published and all rows were merged.
 pub fn assert_version_stays<'r, F: SealRows<A> + Drop, A: Allocator + Copy, N: Naming>(
@@ -95,7 +68,17 @@ pub fn assert_version_stays<'r, F: SealRows<A> + Drop, A: Allocator + Copy, N: N
     let mut now = PlainLedger::new(rt.alloc());
     run_published(rt, &mut now, forest, &first)?;
     let version = publish(rt, forest)?;
-    let outcome = assert_goes_on(rt, alloc, forest, &version, &then, &mut now, &mut dice);
-    drop(version);
-    outcome
+    run_published(
+        rt,
+        &mut now,
+        forest,
+        &further_batches(rt.alloc(), &mut dice)?,
+    )?;
+    let merges = merge_all(rt, alloc, forest)?;
+    assert!(rt; merges >= 10);
+    let asked = questions(rt.alloc(), &mut dice, &now, 400)?;
+    let rows = assert_answers(rt, &version, &then, asked.as_slice());
+    let later = assert_answers(rt, &publish(rt, forest)?, &now, asked.as_slice());
+    assert!(rt; rows > 100 && later > 1000, "{rows} rows and {later}");
+    Ok(())
 }
