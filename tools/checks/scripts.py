@@ -3,6 +3,8 @@ import ast
 import re
 import subprocess
 import sys
+from importlib.machinery import SourceFileLoader
+from importlib.util import module_from_spec, spec_from_loader
 
 from checks.tree import CRATES, TOP, files, shown
 
@@ -38,6 +40,22 @@ def service():
     status, _, beside = said_by("examples/test_payment_service.py")
     if status:
         yield beside
+
+
+def stubs():
+    """tools/stubs leaves the contract of a function and takes its body, and reads every source of the crates."""
+    loader = SourceFileLoader("stubs", str(TOP / "tools/stubs"))
+    tool = module_from_spec(spec_from_loader("stubs", loader))
+    loader.exec_module(tool)
+    given = "impl A {\n    /// {\n    fn f(&self, c: char) -> u8\n        ensures least { c ≡ '{' → result ≡ 1 }\n    {\n        g(\"}\") // }\n    }\n}\n"
+    wanted = given.replace('g("}") // }', "absurdity::absurd();\n        unreachable!()")
+    if tool.stubbed(given) != wanted:
+        yield f"tools/stubs makes of a function with a contract:\n{tool.stubbed(given)}"
+    for path in files(".rt"):
+        try:
+            tool.stubbed(path.read_text(encoding="utf-8"))
+        except (IndexError, KeyError, ValueError) as error:
+            yield f"{shown(path)}: tools/stubs can't read it: {error!r}"
 
 
 def python():
