@@ -1,51 +1,31 @@
 //! Tables that miss no timestamp, whose entries are found by their places.
 
-use super::mutable::put;
-use std::alloc::Global;
+use super::lines::run;
 use std::test::Fail;
-use tf_table::{Key, Log, MutableTable, Sealed};
 
-/// A table with rows at these timestamps, under one value. Each has its timestamp as its entry, but for a tombstone at 9.
-fn table_of(
-    rt: &impl AllocGlobal,
-    value: u128,
-    timestamps: &[u64],
-) -> Result<Sealed<u64, Global>, Fail> {
-    let mut log: Log<u64, Global> = Log::new_in(rt.alloc());
-    for timestamp in timestamps {
-        let key = Key {
-            value,
-            timestamp: *timestamp,
-        };
-        let entry = if *timestamp == 9 {
-            None
-        } else {
-            Some(*timestamp)
-        };
-        let _ = put(&mut log, key, entry)?;
-    }
-    Ok(log.seal(rt.alloc())?)
-}
+const AT_HAND: &str = "\
+log 0@7=7 0@8=8 0@9=gone 0@10=10
+dated: 7 7 8 gone 10
+log 0@18446744073709551614=18446744073709551614 0@18446744073709551615=18446744073709551615
+dated: 18446744073709551614 18446744073709551614 18446744073709551615";
 
 #[test]
 fn entries_at_one_timestamp_after_another_are_at_hand(rt: HostRuntime) -> Result<(), Fail> {
-    let table = table_of(&rt, 0, &[7, 8, 9, 10])?;
-    let (from, entries) = table.dated_entries().ok_or("not at hand")?;
-    assert_eq!(rt; from, 7);
-    assert_eq!(rt; entries, [Some(7), Some(8), None, Some(10)].as_slice());
-    let last = table_of(&rt, 0, &[u64::MAX - 1, u64::MAX])?;
-    let (from, entries) = last.dated_entries().ok_or("not at hand")?;
-    assert_eq!(rt; from, u64::MAX - 1);
-    assert_eq!(rt; entries, [Some(u64::MAX - 1), Some(u64::MAX)].as_slice());
-    Ok(())
+    run(&rt, AT_HAND)
 }
+
+/// A timestamp is missing, the rows have a value, they have one entry, or there is none.
+const NOT_AT_HAND: &str = "\
+log 0@7=7 0@8=8 0@10=10
+dated: none
+log 3@7=7 3@8=8 3@9=gone
+dated: none
+log 0@7=7
+dated: none
+log
+dated: none";
 
 #[test]
 fn entries_of_other_tables_are_not(rt: HostRuntime) -> Result<(), Fail> {
-    // A timestamp is missing, the rows have a value, they have one entry, or there is none.
-    assert!(rt; table_of(&rt, 0, &[7, 8, 10])?.dated_entries().is_none());
-    assert!(rt; table_of(&rt, 3, &[7, 8, 9])?.dated_entries().is_none());
-    assert!(rt; table_of(&rt, 0, &[7])?.dated_entries().is_none());
-    assert!(rt; table_of(&rt, 0, &[])?.dated_entries().is_none());
-    Ok(())
+    run(&rt, NOT_AT_HAND)
 }

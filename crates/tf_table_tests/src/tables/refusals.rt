@@ -1,8 +1,10 @@
 //! Calls whose requests for memory are refused, each in turn.
 
-use super::{key, tree_of};
+use super::making::{Rows, has_rows, insert_all, sealed_tree};
+use super::words::{Row, rows_in};
+use crate::asserts::assert_line;
 use linked_list_allocator::LocalHeap;
-use std::alloc::Allocator;
+use std::alloc::{Allocator, Global};
 use std::process::Abort;
 use std::test::Fail;
 use tf_btree::Tree;
@@ -18,140 +20,104 @@ const STEP: usize = 16;
 /// The same for tables of so many rows that they have fences, which take no less.
 const LARGE_STEP: usize = 1024;
 
-/// The table has these rows and no other.
-fn assert_table<A: Allocator>(
-    rt: &impl Abort,
-    table: &Sealed<u64, A>,
-    rows: &[(u128, Option<u64>)],
-) {
-    assert_eq!(rt; table.len(), rows.len());
-    let mut walk = table.seek(&Key::LEAST);
-    for row in rows {
-        let same = match walk.next() {
-            None => false,
-            Some(seen) => *seen.0 == key(row.0) && seen.1.copied() == row.1,
-        };
-        assert!(rt; same, "the row of {} has changed", row.0);
+/// Whether the tree has these rows and no other.
+fn is_tree_of<A: Allocator>(alloc: Global, tree: &Rows<A>, rows: &[Row]) -> bool {
+    match tree.copy_rows(alloc) {
+        Ok(copy) => copy.as_slice() == rows,
+        Err(_) => false,
     }
-    assert!(rt; walk.next().is_none());
 }
 
-/// The tree has these rows and no other.
-fn assert_tree<A: Allocator>(
+/// A seal or a merge into a heap gave a table of these rows, or was refused and left the heap empty. It tells whether the
+/// memory sufficed.
+fn is_made<'a>(
     rt: &impl Abort,
-    tree: &Tree<Key, Option<u64>, A>,
-    rows: &[(u128, Option<u64>)],
-) {
-    assert_eq!(rt; tree.len(), rows.len());
-    let mut walk = tree.rows();
-    for row in rows {
-        let same = match walk.next() {
-            None => false,
-            Some(seen) => *seen.0 == key(row.0) && *seen.1 == row.1,
-        };
-        assert!(rt; same, "the row of {} has changed", row.0);
-    }
-    assert!(rt; walk.next().is_none());
-}
-
-/// Seals a tree of these rows, which lies in one heap, into another. It tells whether the memory of that sufficed.
-fn is_sealed<'a>(
-    rt: &(impl Abort + AllocGlobal),
-    store: &'a LocalHeap,
     heap: &'a LocalHeap,
-    rows: &[(u128, Option<u64>)],
-) -> Result<bool, Fail> {
-    let tree = tree_of(store, rows)?;
-    let answer = seal(heap, &tree);
-    assert_tree(rt, &tree, rows);
+    answer: Result<Sealed<u64, &'a LocalHeap>, Refusal>,
+    rows: &[Row],
+) -> bool {
     match answer {
         Ok(table) => {
-            assert_table(rt, &table, rows);
-            Ok(true)
+            let is_whole = has_rows(&table, rows);
+            drop(table);
+            assert!(rt; is_whole);
+            true
         }
         Err(refusal) => {
-            assert_eq!(rt; refusal, Refusal::NoMemory);
-            assert_eq!(rt; heap.used(), 0);
-            Ok(false)
+            assert!(rt; refusal == Refusal::NoMemory && heap.used() == 0);
+            false
         }
     }
 }
 
-/// Merges tables of these rows, newest first, which lie in one heap, into these rows in another. It tells whether the
-/// memory of that sufficed.
-fn is_merged<'a>(
+/// Seals a tree into a heap, which leaves the tree as it was. It tells whether the memory sufficed.
+fn is_sealed_on<'a>(
     rt: &(impl Abort + AllocGlobal),
-    store: &'a LocalHeap,
     heap: &'a LocalHeap,
-    parts: &[&[(u128, Option<u64>)]],
-    rows: &[(u128, Option<u64>)],
-) -> Result<bool, Fail> {
-    let mut tables = Vec::new(rt.alloc());
-    for part in parts {
-        tables.push(seal(store, &tree_of(store, part)?)?)?;
-    }
-    let mut lent = Vec::new(rt.alloc());
-    for table in &tables {
-        lent.push(table)?;
-    }
-    let answer = merge(heap, &lent, false);
-    for (table, part) in tables.iter().zip(parts) {
-        assert_table(rt, table, part);
-    }
-    match answer {
-        Ok(table) => {
-            assert_table(rt, &table, rows);
-            Ok(true)
-        }
-        Err(refusal) => {
-            assert_eq!(rt; refusal, Refusal::NoMemory);
-            assert_eq!(rt; heap.used(), 0);
-            Ok(false)
-        }
-    }
+    tree: &mut Rows<&'a LocalHeap>,
+    rows: &[Row],
+) -> Result<bool, Refusal> {
+    insert_all(tree, rows)?;
+    let answer = is_made(rt, heap, seal(heap, tree), rows);
+    assert!(rt; is_tree_of(rt.alloc(), tree, rows));
+    Ok(answer)
+}
+
+/// The same of a tree of these rows and a heap of this size.
+fn is_sealed(
+    rt: &(impl Abort + AllocGlobal),
+    size: usize,
+    store: &LocalHeap,
+    rows: &[Row],
+) -> Result<bool, Refusal> {
+    let heap = LocalHeap::new(rt.alloc(), size)?;
+    let mut tree = Tree::new_in(store);
+    let outcome = is_sealed_on(rt, &heap, &mut tree, rows);
+    drop(tree);
+    drop(heap);
+    outcome
 }
 
 /// The size of the smallest heap that suffices to seal a tree of these rows, after a refusal at each smaller one. Heaps grow
 /// by `step` bytes.
 fn room_of_seal(
     rt: &(impl Abort + AllocGlobal),
-    rows: &[(u128, Option<u64>)],
+    store: &LocalHeap,
+    rows: &[Row],
     step: usize,
-) -> Result<usize, Fail> {
-    let store = LocalHeap::new(rt.alloc(), 1 << 18)?;
+) -> Result<usize, Refusal> {
     for tries in 0..200usize {
-        let heap = LocalHeap::new(rt.alloc(), tries.saturating_mul(step))?;
-        if is_sealed(rt, &store, &heap, rows)? {
-            return Ok(tries.saturating_mul(step));
+        let size = tries.saturating_mul(step);
+        if is_sealed(rt, size, store, rows)? {
+            return Ok(size);
         }
     }
-    Err(Fail::new("the seal never succeeds"))
+    assert_line(rt, false, "the seal never succeeds");
+    Ok(0)
 }
 
-/// The same for a merge of tables of these rows, newest first, into these.
-fn room_of_merge(
+/// Seals of these rows take so many bytes.
+fn assert_room_of_seal(
     rt: &(impl Abort + AllocGlobal),
-    parts: &[&[(u128, Option<u64>)]],
-    rows: &[(u128, Option<u64>)],
-) -> Result<usize, Fail> {
-    let store = LocalHeap::new(rt.alloc(), 1 << 15)?;
-    for tries in 0..200usize {
-        let heap = LocalHeap::new(rt.alloc(), tries * STEP)?;
-        if is_merged(rt, &store, &heap, parts, rows)? {
-            return Ok(tries * STEP);
-        }
-    }
-    Err(Fail::new("the merge never succeeds"))
+    rows: &[Row],
+    step: usize,
+    room: usize,
+) -> Result<(), Refusal> {
+    let store = LocalHeap::new(rt.alloc(), 1 << 18)?;
+    let least = room_of_seal(rt, &store, rows, step);
+    drop(store);
+    assert!(rt; least? == room);
+    Ok(())
 }
 
 #[test]
 fn each_refused_request_of_a_seal_leaves_the_tree_as_it_was(rt: HostRuntime) -> Result<(), Fail> {
+    let alike = rows_in(&rt, "5=1 7=1 9=1")?;
+    let unlike = rows_in(&rt, "5=gone 7=10 9=11")?;
     // A key takes 32 bytes, an entry 16, and the filter of so few keys a block of 16.
-    let alike = [(5, Some(1)), (7, Some(1)), (9, Some(1))];
-    let unlike = [(5, None), (7, Some(10)), (9, Some(11))];
-    assert_eq!(rt; room_of_seal(&rt, &[], STEP)?, 0);
-    assert_eq!(rt; room_of_seal(&rt, &alike, STEP)?, 3 * 32 + 16);
-    assert_eq!(rt; room_of_seal(&rt, &unlike, STEP)?, 3 * (32 + 16) + 16);
+    assert_room_of_seal(&rt, &[], STEP, 0)?;
+    assert_room_of_seal(&rt, &alike, STEP, 3 * 32 + 16)?;
+    assert_room_of_seal(&rt, &unlike, STEP, 3 * (32 + 16) + 16)?;
     Ok(())
 }
 
@@ -161,13 +127,107 @@ fn each_refused_request_of_a_seal_with_fences_leaves_the_tree_as_it_was(
 ) -> Result<(), Fail> {
     let mut rows = Vec::new(rt.alloc());
     for value in 0..1024u64 {
-        rows.push((value.into(), Some(value)))?;
+        let key = Key {
+            value: value.into(),
+            timestamp: 1,
+        };
+        rows.push((key, Some(value)))?;
     }
     // The keys take 32 KiB, the entries 16, the filter between one and two, and the fences one.
-    assert_eq!(rt;
-        room_of_seal(&rt, &rows, LARGE_STEP)?,
-        (32 + 16 + 2 + 1) * LARGE_STEP
-    );
+    assert_room_of_seal(&rt, &rows, LARGE_STEP, (32 + 16 + 2 + 1) * LARGE_STEP)?;
+    Ok(())
+}
+
+/// Adds a table of the rows of each part.
+fn add_tables<'a>(
+    store: &'a LocalHeap,
+    tables: &mut Vec<Sealed<u64, &'a LocalHeap>>,
+    parts: &[&[Row]],
+) -> Result<(), Refusal> {
+    for part in parts {
+        tables.push(sealed_tree(store, part)?)?;
+    }
+    Ok(())
+}
+
+/// Whether each table has the rows of its part.
+fn are_whole(tables: &[Sealed<u64, &LocalHeap>], parts: &[&[Row]]) -> bool {
+    for (table, part) in tables.iter().zip(parts) {
+        if !has_rows(table, part) {
+            return false;
+        }
+    }
+    tables.len() == parts.len()
+}
+
+/// Merges tables into a heap. It tells whether the memory sufficed for these rows.
+fn is_merged_on<'a>(
+    rt: &(impl Abort + AllocGlobal),
+    heap: &'a LocalHeap,
+    tables: &[Sealed<u64, &'a LocalHeap>],
+    rows: &[Row],
+) -> Result<bool, Refusal> {
+    let mut lent = Vec::new(rt.alloc());
+    for table in tables {
+        lent.push(table)?;
+    }
+    Ok(is_made(rt, heap, merge(heap, &lent, false), rows))
+}
+
+/// Merges tables of these parts, newest first, into a heap of this size, which leaves them as they were. It tells whether the
+/// memory sufficed for these rows.
+fn is_merged(
+    rt: &(impl Abort + AllocGlobal),
+    size: usize,
+    store: &LocalHeap,
+    parts: &[&[Row]],
+    rows: &[Row],
+) -> Result<bool, Refusal> {
+    let heap = LocalHeap::new(rt.alloc(), size)?;
+    let mut tables = Vec::new(rt.alloc());
+    let outcome = match add_tables(store, &mut tables, parts) {
+        Ok(()) => is_merged_on(rt, &heap, &tables, rows),
+        Err(refusal) => Err(refusal),
+    };
+    let are_whole = are_whole(&tables, parts);
+    drop(tables);
+    drop(heap);
+    assert!(rt; are_whole);
+    outcome
+}
+
+/// The size of the smallest heap that suffices to merge tables of these parts, newest first, into these rows, after a refusal
+/// at each smaller one.
+fn room_of_merge(
+    rt: &(impl Abort + AllocGlobal),
+    store: &LocalHeap,
+    parts: &[&[Row]],
+    rows: &[Row],
+) -> Result<usize, Refusal> {
+    for tries in 0..200usize {
+        if is_merged(rt, tries * STEP, store, parts, rows)? {
+            return Ok(tries * STEP);
+        }
+    }
+    assert_line(rt, false, "the merge never succeeds");
+    Ok(0)
+}
+
+/// Merges of two tables, newest first, and of nine of them in turn, take so many bytes.
+fn assert_rooms_of_merges(
+    rt: &(impl Abort + AllocGlobal),
+    store: &LocalHeap,
+) -> Result<(), Refusal> {
+    let newest = rows_in(rt, "5=gone 7=10")?;
+    let older = rows_in(rt, "5=20 6=30")?;
+    let merged = rows_in(rt, "5=gone 6=30 7=10")?;
+    let (n, o) = (newest.as_slice(), older.as_slice());
+    // While the room of one key is given back, the three keys stand twice.
+    let room = room_of_merge(rt, store, &[n, o], &merged)?;
+    assert!(rt; room == 4 * (32 + 16) + 3 * 32);
+    // Places for more than eight tables take memory too.
+    let room = room_of_merge(rt, store, &[n, o, n, o, n, o, n, o, n], &merged)?;
+    assert!(rt; room > 18 * (32 + 16));
     Ok(())
 }
 
@@ -175,22 +235,8 @@ fn each_refused_request_of_a_seal_with_fences_leaves_the_tree_as_it_was(
 fn each_refused_request_of_a_merge_leaves_the_tables_as_they_were(
     rt: HostRuntime,
 ) -> Result<(), Fail> {
-    let newest = [(5, None), (7, Some(10))];
-    let older = [(5, Some(20)), (6, Some(30))];
-    let two = [(5, None), (6, Some(30)), (7, Some(10))];
-    // While the room of one key is given back, the three keys stand twice.
-    assert_eq!(rt;
-        room_of_merge(&rt, &[&newest, &older], &two)?,
-        4 * (32 + 16) + 3 * 32
-    );
-    // Places for more than eight tables take memory too.
-    let all = room_of_merge(
-        &rt,
-        &[
-            &newest, &older, &newest, &older, &newest, &older, &newest, &older, &newest,
-        ],
-        &two,
-    )?;
-    assert!(rt; all > 18 * (32 + 16), "{all} bytes");
-    Ok(())
+    let store = LocalHeap::new(rt.alloc(), 1 << 15)?;
+    let outcome = assert_rooms_of_merges(&rt, &store);
+    drop(store);
+    Ok(outcome?)
 }

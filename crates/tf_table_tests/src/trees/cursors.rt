@@ -1,90 +1,156 @@
 //! Walks from random keys, up and down, beside the rows of an ordered map.
-use super::advance;
-use std::alloc::Global;
+use super::{advance, copied, insert_both};
+use crate::asserts::assert_at;
+use std::alloc::{AllocError, Global};
 use std::collections::BTreeMap;
+use std::process::Abort;
 use std::test::Fail;
 use tf_btree::Tree;
 
 /// The steps of a walk.
 const STEPS: usize = 100;
 
-/// A tree with a few thousand rows of random keys below 20,000, and its rows in key order.
-fn random_rows(rt: &impl AllocGlobal) -> Result<(Tree<u64, u64, Global>, Vec<(u64, u64)>), Fail> {
-    let mut tree = Tree::new_in(rt.alloc());
-    let mut map = BTreeMap::new(rt.alloc());
+/// Fills both with a few thousand rows of random keys below 20,000. It tells whether there was memory for them.
+fn is_filled(tree: &mut Tree<u64, u64, Global>, map: &mut BTreeMap<u64, u64>) -> bool {
     let mut state = 5;
     for _ in 0..5000 {
         state = advance(state);
-        let key = (state >> 33) % 20000;
-        let _ = tree.insert(key, state)?;
-        let _ = map.insert(key, state)?;
+        let is_inserted = insert_both(tree, map, (state >> 33) % 20000, state);
         let gone = (state >> 11) % 20000;
-        let _ = tree.remove(&gone);
-        let _ = map.remove(&gone);
+        if !is_inserted || tree.remove(&gone) != map.remove(&gone) {
+            return false;
+        }
     }
-    let mut rows = Vec::new(rt.alloc());
-    for (key, value) in &map {
+    true
+}
+
+/// The rows of a map.
+fn rows_of(alloc: Global, map: &BTreeMap<u64, u64>) -> Result<Vec<(u64, u64)>, AllocError> {
+    let mut rows = Vec::new(alloc);
+    for (key, value) in map {
         rows.push((*key, *value))?;
     }
-    Ok((tree, rows))
+    Ok(rows)
 }
 
-/// A row that is lent, if there is one.
-fn copied<K: Copy, V: Copy>(row: Option<(&K, &V)>) -> Option<(K, V)> {
-    match row {
-        Some((key, value)) => Some((*key, *value)),
-        None => None,
+/// How many rows have keys below this one.
+fn count_below(rows: &[(u64, u64)], key: u64) -> usize {
+    let mut count = 0usize;
+    for row in rows {
+        if row.0 < key {
+            count = count.saturating_add(1);
+        }
     }
+    count
 }
 
-#[test]
-fn walks_from_random_keys_give_the_next_rows(rt: HostRuntime) -> Result<(), Fail> {
-    let (tree, rows) = random_rows(&rt)?;
-    assert_eq!(rt; tree.len(), rows.len());
+/// Whether walks up and down from a key give the next rows.
+fn gives_next(tree: &Tree<u64, u64, Global>, rows: &[(u64, u64)], key: u64) -> bool {
+    let above = count_below(rows, key);
+    let upto = count_below(rows, key.saturating_add(1));
+    let (mut up, mut down) = (tree.seek(&key), tree.seek_back(&key));
+    for step in 0..STEPS {
+        // Below the first row the place wraps to one behind all rows.
+        let next = rows.get(above.saturating_add(step));
+        let last = rows.get(upto.wrapping_sub(step).wrapping_sub(1));
+        if copied(up.next()) != next.copied() || copied(down.next()) != last.copied() {
+            return false;
+        }
+    }
+    true
+}
+
+/// Walks from random keys of a tree with random rows give the next rows.
+fn assert_walks(
+    rt: &(impl Abort + AllocGlobal),
+    tree: &mut Tree<u64, u64, Global>,
+    map: &mut BTreeMap<u64, u64>,
+) -> Result<(), AllocError> {
+    assert!(rt; is_filled(tree, map));
+    let rows = rows_of(rt.alloc(), map)?;
+    assert!(rt; tree.len() == rows.len());
     let mut state = 9;
     for _ in 0..300 {
         state = advance(state);
         let key = (state >> 33) % 20100;
-        let mut up = tree.seek(&key);
-        let mut wanted_up = rows.iter().skip_while(|row| row.0 < key);
-        let mut down = tree.seek_back(&key);
-        let mut wanted_down = rows.iter().rev().skip_while(|row| row.0 > key);
-        for _ in 0..STEPS {
-            assert_eq!(rt; copied(up.next()), wanted_up.next().copied());
-            assert_eq!(rt; copied(down.next()), wanted_down.next().copied());
+        assert_at(rt, gives_next(tree, &rows, key), "the next rows", key);
+    }
+    Ok(())
+}
+
+#[test]
+fn walks_from_random_keys_give_the_next_rows(rt: HostRuntime) -> Result<(), Fail> {
+    let mut tree = Tree::new_in(rt.alloc());
+    let mut map = BTreeMap::new(rt.alloc());
+    let outcome = assert_walks(&rt, &mut tree, &mut map);
+    drop(tree);
+    drop(map);
+    Ok(outcome?)
+}
+
+/// Whether a walk down from the greatest key gives every row, and then none for good.
+fn gives_all_down(tree: &Tree<u64, u64, Global>, rows: &[(u64, u64)]) -> bool {
+    let mut down = tree.rows_back();
+    for row in rows.iter().rev() {
+        if copied(down.next()) != Some(*row) {
+            return false;
         }
     }
+    down.next().is_none() && down.next().is_none()
+}
+
+/// It does so of a tree with random rows.
+fn assert_walk_down(
+    rt: &(impl Abort + AllocGlobal),
+    tree: &mut Tree<u64, u64, Global>,
+    map: &mut BTreeMap<u64, u64>,
+) -> Result<(), AllocError> {
+    assert!(rt; is_filled(tree, map));
+    let rows = rows_of(rt.alloc(), map)?;
+    assert!(rt; gives_all_down(tree, &rows));
     Ok(())
 }
 
 #[test]
 fn a_walk_down_gives_every_row_from_the_greatest_key(rt: HostRuntime) -> Result<(), Fail> {
-    let (tree, rows) = random_rows(&rt)?;
-    let mut down = tree.rows_back();
-    for row in rows.iter().rev() {
-        let next = down.next().ok_or("a row is missing")?;
-        assert_eq!(rt; (*next.0, *next.1), *row);
+    let mut tree = Tree::new_in(rt.alloc());
+    let mut map = BTreeMap::new(rt.alloc());
+    let outcome = assert_walk_down(&rt, &mut tree, &mut map);
+    drop(tree);
+    drop(map);
+    Ok(outcome?)
+}
+
+/// The first two rows of a walk down from a key.
+fn two_down(tree: &Tree<u32, u32, Global>, key: u32) -> [Option<(u32, u32)>; 2] {
+    let mut rows = tree.seek_back(&key);
+    [copied(rows.next()), copied(rows.next())]
+}
+
+/// Whether walks down end where they should from keys below, on and between those of a tree with each tenth key, and above them.
+fn has_ends(tree: &Tree<u32, u32, Global>) -> bool {
+    two_down(tree, 9) == [None, None]
+        && two_down(tree, 10) == [Some((10, 1)), None]
+        && two_down(tree, 335) == [Some((330, 33)), Some((320, 32))]
+        && two_down(tree, 5000)[0] == Some((640, 64))
+}
+
+/// Inserts each tenth key. It tells whether there was memory for them.
+fn insert_tens(tree: &mut Tree<u32, u32, Global>) -> bool {
+    for key in 1..=64u32 {
+        if !matches!(tree.insert(10 * key, key), Ok(None)) {
+            return false;
+        }
     }
-    assert!(rt; down.next().is_none());
-    assert!(rt; down.next().is_none());
-    Ok(())
+    true
 }
 
 #[test]
 fn a_walk_down_ends_where_no_key_is_left(rt: HostRuntime) -> Result<(), Fail> {
     let mut tree = Tree::new_in(rt.alloc());
-    assert!(rt; tree.rows_back().next().is_none());
-    assert!(rt; tree.seek_back(&0).next().is_none());
-    for key in 1..=64u32 {
-        assert_eq!(rt; tree.insert(10 * key, key)?, None);
-    }
-    assert!(rt; tree.seek_back(&9).next().is_none());
-    let mut at_least = tree.seek_back(&10);
-    assert_eq!(rt; copied(at_least.next()), Some((10, 1)));
-    assert!(rt; at_least.next().is_none());
-    let mut between = tree.seek_back(&335);
-    assert_eq!(rt; copied(between.next()), Some((330, 33)));
-    assert_eq!(rt; copied(between.next()), Some((320, 32)));
-    assert_eq!(rt; copied(tree.seek_back(&5000).next()), Some((640, 64)));
+    let is_empty = tree.rows_back().next().is_none() && two_down(&tree, 0) == [None, None];
+    let has_ends = insert_tens(&mut tree) && has_ends(&tree);
+    drop(tree);
+    assert!(rt; is_empty && has_ends);
     Ok(())
 }

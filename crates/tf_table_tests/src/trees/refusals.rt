@@ -1,6 +1,8 @@
 //! Calls whose requests for memory are refused, each in turn.
+use super::{count_copied, has_rows};
+use crate::asserts::assert_at;
 use linked_list_allocator::LocalHeap;
-use std::alloc::AllocError;
+use std::alloc::{AllocError, Global};
 use std::collections::BTreeMap;
 use std::process::Abort;
 use std::test::Fail;
@@ -35,18 +37,25 @@ fn leave_room<'a>(
     Ok(blocks)
 }
 
-/// The tree has the rows of the map and no other.
-fn assert_rows(rt: &impl Abort, tree: &Tree<u64, u64, &LocalHeap>, map: &BTreeMap<u64, u64>) {
-    assert_eq!(rt; tree.len(), map.len());
-    let mut rows = tree.rows();
-    for (key, value) in map {
-        let same = match rows.next() {
-            None => false,
-            Some(row) => *row.0 == *key && *row.1 == *value,
-        };
-        assert!(rt; same, "the row of {key} has changed");
-    }
-    assert!(rt; rows.next().is_none());
+/// Puts a row in beside so much room. It tells the value that was there, or nothing where the row was refused.
+fn insert_beside<'a>(
+    rt: &(impl Abort + AllocGlobal),
+    heap: &'a LocalHeap,
+    tree: &mut Tree<u64, u64, &'a LocalHeap>,
+    row: (u64, u64),
+    room: usize,
+) -> Result<Option<Option<u64>>, AllocError> {
+    let blocks = leave_room(rt, heap, room)?;
+    assert!(rt; heap.free() == room);
+    let inserted = match tree.insert(row.0, row.1) {
+        Ok(old) => Some(old),
+        Err(returned) => {
+            assert!(rt; returned == row && heap.free() == room);
+            None
+        }
+    };
+    drop(blocks);
+    Ok(inserted)
 }
 
 /// Puts a row in with no room, and then with ever more of it, and gives the number of refusals before it goes in.
@@ -56,72 +65,114 @@ fn insert_in_the_end<'a>(
     tree: &mut Tree<u64, u64, &'a LocalHeap>,
     map: &mut BTreeMap<u64, u64>,
     row: (u64, u64),
-) -> Result<usize, Fail> {
+) -> Result<usize, AllocError> {
     for refusals in 0..1000usize {
-        let blocks = leave_room(rt, heap, refusals * STEP)?;
-        assert_eq!(rt; heap.free(), refusals * STEP);
-        match tree.insert(row.0, row.1) {
-            Ok(old) => {
-                assert_eq!(rt; old, map.insert(row.0, row.1)?);
-                drop(blocks);
-                return Ok(refusals);
-            }
-            Err(returned) => {
-                assert_eq!(rt; returned, row);
-                assert_eq!(rt; heap.free(), refusals * STEP);
-                assert_rows(rt, tree, map);
-            }
+        if let Some(old) = insert_beside(rt, heap, tree, row, refusals * STEP)? {
+            assert!(rt; map.insert(row.0, row.1)? == old);
+            return Ok(refusals);
         }
+        assert_at(rt, has_rows(tree, map), "rows after a refusal", row.0);
     }
-    Err(Fail::new("the row never goes in"))
+    assert_at(rt, false, "no insert", row.0);
+    Ok(0)
 }
 
-/// Puts 2,000 rows in, whose keys are `first`, `first + step` and so on, modulo 2,000.
-fn assert_refusals_change_nothing(
-    rt: &(impl Abort + AllocGlobal),
+/// Keys `first`, `first + step` and so on, modulo 2,000.
+#[derive(Clone, Copy)]
+struct Order {
     first: u64,
     step: u64,
+}
+
+impl Order {
+    /// The key of a place.
+    fn key(self, place: u64) -> u64 {
+        place.wrapping_mul(self.step).wrapping_add(self.first) % 2000
+    }
+}
+
+/// Puts 2,000 rows in, in an order. It tells how many of them asked for memory.
+fn count_refused<'a>(
+    rt: &(impl Abort + AllocGlobal),
+    heap: &'a LocalHeap,
+    tree: &mut Tree<u64, u64, &'a LocalHeap>,
+    map: &mut BTreeMap<u64, u64>,
+    order: Order,
+) -> Result<usize, AllocError> {
+    let mut refused = 0usize;
+    for value in 0..2000u64 {
+        let row = (order.key(value), value);
+        if insert_in_the_end(rt, heap, tree, map, row)? > 0 {
+            refused = refused.saturating_add(1);
+        }
+    }
+    assert!(rt; has_rows(tree, map));
+    assert!(rt; tree.len() == 2000);
+    Ok(refused)
+}
+
+/// Inserts in an order that are refused change nothing.
+fn assert_refusals_change_nothing(
+    rt: &(impl Abort + AllocGlobal),
+    order: Order,
 ) -> Result<(), Fail> {
     let heap = LocalHeap::new(rt.alloc(), 1 << 18)?;
     let mut tree = Tree::new_in(&heap);
     let mut map = BTreeMap::new(rt.alloc());
-    let mut splits = 0usize;
-    for value in 0..2000u64 {
-        let key = value.wrapping_mul(step).wrapping_add(first) % 2000;
-        let refusals = insert_in_the_end(rt, &heap, &mut tree, &mut map, (key, value))?;
-        if refusals > 0 {
-            splits = splits.saturating_add(1);
-        }
-    }
-    assert!(rt; splits > 60, "{splits} inserts asked for memory");
-    assert_rows(rt, &tree, &map);
-    assert_eq!(rt; tree.len(), 2000);
+    let refused = count_refused(rt, &heap, &mut tree, &mut map, order);
+    drop(tree);
+    drop(map);
+    drop(heap);
+    assert!(rt; refused? > 60);
     Ok(())
 }
 
 #[test]
 fn refused_inserts_of_rising_keys_change_nothing(rt: HostRuntime) -> Result<(), Fail> {
-    assert_refusals_change_nothing(&rt, 0, 1)
+    assert_refusals_change_nothing(&rt, Order { first: 0, step: 1 })
 }
 
 #[test]
 fn refused_inserts_of_falling_keys_change_nothing(rt: HostRuntime) -> Result<(), Fail> {
-    assert_refusals_change_nothing(&rt, 1999, 1999)
+    assert_refusals_change_nothing(
+        &rt,
+        Order {
+            first: 1999,
+            step: 1999,
+        },
+    )
 }
 
 #[test]
 fn refused_inserts_of_mixed_keys_change_nothing(rt: HostRuntime) -> Result<(), Fail> {
-    assert_refusals_change_nothing(&rt, 7, 1009)
+    assert_refusals_change_nothing(
+        &rt,
+        Order {
+            first: 7,
+            step: 1009,
+        },
+    )
+}
+
+/// Copies rows into a heap that has no room for them.
+fn assert_copy_refused(
+    rt: &(impl Abort + AllocGlobal),
+    tree: &mut Tree<u64, u64, Global>,
+    heap: &LocalHeap,
+) {
+    for key in 0..100u64 {
+        assert!(rt; matches!(tree.insert(key, key), Ok(None)));
+    }
+    assert!(rt; count_copied(tree, heap).err() == Some(Refusal::NoMemory));
+    assert!(rt; count_copied(tree, rt.alloc()).ok() == Some(100));
 }
 
 #[test]
 fn a_refused_copy_leaves_the_tree_as_it_was(rt: HostRuntime) -> Result<(), Fail> {
     let heap = LocalHeap::new(rt.alloc(), 64)?;
     let mut tree = Tree::new_in(rt.alloc());
-    for key in 0..100u64 {
-        assert_eq!(rt; tree.insert(key, key)?, None);
-    }
-    assert_eq!(rt; tree.copy_rows(&heap).err(), Some(Refusal::NoMemory));
-    assert_eq!(rt; tree.copy_rows(rt.alloc())?.len(), 100);
+    assert_copy_refused(&rt, &mut tree, &heap);
+    drop(tree);
+    drop(heap);
     Ok(())
 }
