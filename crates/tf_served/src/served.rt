@@ -87,7 +87,7 @@ where
         ensures roomy { self.now.store.now.forest.sealed.tables.pushed.limit ≡ 1048576 }
     {
         self.store.forest().facts();
-        let _bounds = self.store.rows_sealed();
+        let _book = self.store.facts();
     }
 
     /// Publishes, and gives the receipts.

@@ -2,3 +2,4 @@ pub mod Counting
 pub mod Runs
 pub mod Kept
 pub mod Published
+pub mod Beginnings

@@ -1,4 +1,5 @@
 -- Receipts: a batch with what it was run on, what it answered and what it left.
+use mathlib.Core.List.{IsPrefix}
 use Rattle.std.specs.Prelude.{◌≡◌, ℕ, ◌≤◌, List, length, take, None, Result}
 use Rattle.tf_records.specs.declared.account.Account.{Account}
 use Rattle.tf_records.specs.declared.transfer.Transfer.{Transfer}
@@ -44,6 +45,12 @@ pub record IsReceipt (receipt : ReceiptView) : Type 0 where
   pub due : batch_refusal receipt.clock (count_of receipt.events) receipt.moment ≡ None
   pub stored : receipt.second ≡ (step_of receipt.events receipt.first receipt.clock receipt.moment).journal
   pub replied : receipt.reply ≡ (step_of receipt.events receipt.first receipt.clock receipt.moment).failures
+
+-- a receipt whose journals, the first and the second, begin a journal
+pub record IsReceiptOf (journal : List Entry) (told : ReceiptView) : Type 0 where
+  pub receipt : IsReceipt told
+  pub first : IsPrefix told.first journal
+  pub second : IsPrefix told.second journal
 
 -- a batch whose receipt waits, with the lengths of the journal before and after it
 pub record Waiting : Type 0 where

@@ -33,7 +33,8 @@ impl<'r, T: MutableRows + Drop, C: StoredCopies + Drop, A: Allocator + Copy, S: 
 
     /// Puts a merged table in the place of its run, whatever was stored, published and installed since the run was picked:
     /// `Stale` exactly where the run no longer stands in its row; else `RegistryFull` exactly where the tables pushed are at
-    /// their limit; else only `NoMemory`, which hands the table back. A refusal leaves all as it was. It may wait in the push.
+    /// their limit; else only `NoMemory`, which hands the table back. A refusal leaves all as it was, and what mutable tables have stays in any case. It
+    /// may wait in the push.
     ///
     /// Readers see the table from the next publish on that has something to show. Takes a walk over the row's references.
     pub fn install<R: Wait>(
@@ -43,6 +44,8 @@ impl<'r, T: MutableRows + Drop, C: StoredCopies + Drop, A: Allocator + Copy, S: 
     ) -> Result<(), Uninstalled<Merged<'r, A, S>>>
         ensures journal { self.new.forest.journal ≡ self.old.forest.journal }
         ensures clock_kept { self.new.forest.clock ≡ self.old.forest.clock }
+        ensures length_kept { self.new.forest.kept ≡ self.old.forest.kept }
+        ensures entries { (self.new.forest.fresh ≡ self.old.forest.fresh) × (self.new.forest.waiting ≡ self.old.forest.waiting) }
         ensures waiting { self.new.waiting ≡ self.old.waiting }
         ensures readable { self.new.readable ≡ self.old.readable }
         ensures installs { OnOk result (InstallsIn self.old.forest.sealed.tables merged.entry self.new.forest.sealed.tables) }

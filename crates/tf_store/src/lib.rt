@@ -5,6 +5,7 @@ mod batches;
 mod compaction;
 mod copies;
 mod events;
+mod facts;
 mod gathering;
 mod names;
 mod opening;

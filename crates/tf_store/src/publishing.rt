@@ -1,9 +1,13 @@
 //! Publishing a store: what readers and versions see.
 ghost use mathlib.Core.List.{IsPrefix};
 ghost use Rattle.std.specs.Prelude.{◌≡◌, ◌≤◌, [], length, OnOk, OnErr, IfOk};
+ghost use Rattle.std.specs.List.{All};
 ghost use Rattle.tf_journal.specs.Lawful.{IsLawful};
 ghost use Rattle.tf_store.specs.Public.{IsPublic, all_public};
+ghost use Rattle.tf_publish.specs.Partly.{CountsParts};
+ghost use Rattle.tf_publish.specs.Tables.{by_name};
 ghost use Rattle.tf_store.specs.Publish.{IsPublish};
+ghost use Rattle.tf_store.specs.Receipt.{IsReceiptOf};
 
 use crate::public::{Public, tell};
 use crate::{Receipt, Store, StoreName, VersionCopies};
@@ -37,6 +41,7 @@ where
     ensures begins { IsPrefix public.new.front forest.new.journal }
     ensures further { length public.old.front ≤ length public.new.front }
     ensures refused { OnErr result ((public.new.shown ≡ public.old.shown) × (public.new.readable ≡ public.old.readable)) }
+    ensures parts { OnErr result (CountsParts (by_name forest.old.fresh) forest.old.sealed forest.new.sealed) }
 {
     manifest_shows_one_journal();
     forest.facts();
@@ -66,10 +71,15 @@ where
     /// that tables that were pushed stay counted, and the receipts go on waiting. Where nothing was stored since the last
     /// publish it takes no memory and is never refused.
     ///
+    /// Each receipt tells of a batch whose second journal begins the store's. Where memory was refused, the rows up to one are
+    /// published as far as that got, on tables that nothing refers to, and just what was pushed for them is counted.
+    ///
     /// Copies each entry stored since the last publish once in each of its rows, and the references of all tables twice. It
     /// may wait in pushes, and for readers that are about to leave what was published before the last.
     pub fn publish<W: Wait>(&mut self, rt: &W) -> Result<Vec<Receipt<A, S>, A>, Refusal>
         ensures publish { IsPublish self.old.forest self.new.forest result }
+        ensures parts { OnErr result (CountsParts (by_name self.old.forest.fresh) self.old.forest.sealed self.new.forest.sealed) }
+        ensures own { IfOk result (λ receipts. All (IsReceiptOf self.new.forest.journal) receipts.items) }
         ensures receipts { IfOk result (λ receipts. receipts.items ≡ self.old.waiting) }
         ensures handed { OnOk result (self.new.waiting ≡ []) }
         ensures wait { OnErr result (self.new.waiting ≡ self.old.waiting) }
@@ -86,6 +96,7 @@ where
     /// copy of the references of all tables. Refusals and cost are those of `publish`.
     pub fn take_version<W: Wait>(&mut self, rt: &W) -> Result<Version<'r, A, S>, Refusal>
         ensures publish { IsPublish self.old.forest self.new.forest result }
+        ensures parts { OnErr result (CountsParts (by_name self.old.forest.fresh) self.old.forest.sealed self.new.forest.sealed) }
         ensures version { IfOk result (λ version. version ≡ self.old.forest.journal) }
         ensures waiting { self.new.waiting ≡ self.old.waiting }
         ensures readable { OnOk result (self.new.readable ≡ self.old.forest.journal) }

@@ -50,6 +50,7 @@ pub fn assert_pulses_are_counted<
     twin.run_all(rt, alloc, store, shares, commands.as_slice())?;
     assert_eq!(rt; (shares[0].count(), shares[1].count()), (6, 3));
     assert_eq!(rt; (store.book(), store.failed_book()), (9, 0));
+    assert_eq!(rt; store.facts(), 9);
     assert_eq!(rt; twin.publish(rt, store)?, 0);
     Ok(())
 }

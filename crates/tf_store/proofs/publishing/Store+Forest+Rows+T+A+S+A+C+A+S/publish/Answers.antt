@@ -1,10 +1,13 @@
 use Rattle.std.proofs.Common.{◌≡◌, ◌∙◌, ap, Ok, sym, subst, take}
 use Rattle.std.specs.List.{All}
+use Rattle.std.specs.Prelude.{map}
+use Rattle.std.proofs.lemmas.List.Elements.{All-same}
 use Rattle.tf_forest.specs.Forest as forest
 use Rattle.tf_store.specs.Public.{PublicView}
 use Rattle.tf_store.specs.Publish.{IsPublish}
-use Rattle.tf_store.specs.Receipt.{Waiting, Waits}
+use Rattle.tf_store.specs.Receipt.{IsReceiptOf, Waiting, Waits, receipt_of}
 use Rattle.tf_store.specs.Store.{IsStore, View}
+use Rattle.tf_store.proofs.Beginnings.{receipts_of}
 use Rattle.tf_store.proofs.Kept.{store_emptied, store_shows}
 use Rattle.tf_store.proofs.Published.{published_as, store_refused}
 use Rattle.tf_store.proofs.publishing.Store+Forest+Rows+T+A+S+A+C+A+S.publish.Goals as goal
@@ -32,3 +35,11 @@ pub returns-clause-publish : goal.returns-clause-publish
 returns-clause-publish g c =
     subst (λ (v : View). IsPublish v.forest c.bring_up.new.forest (Ok c.hand_over.result)) c.self.view_is
     (published_as c.self.inside.forest c.bring_up.new.forest c.in_ok-bring_up.field-0 c.hand_over.result c.in_ok-bring_up.ensures.publish)
+
+pub returns-clause-own : goal.returns-clause-own
+returns-clause-own g c =
+    let journal = c.bring_up.new.forest.journal in
+    let waiting = c.self.inside.queue.waiting in
+    let front : c.front-front.result.now ≡ journal = c.front-front.ensures ∙ ap (λ (p : PublicView). p.front) c.in_ok-bring_up.ensures.all in
+    All-same (IsReceiptOf journal) _ _ (c.hand_over.ensures.receipts ∙ ap (λ l. map (receipt_of l) waiting) front)
+    (receipts_of journal waiting (subst (λ l. All (Waits l) waiting) (sym c.in_ok-bring_up.ensures.publish.journal) c.self.invariant.waits))
