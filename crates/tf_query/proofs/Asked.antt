@@ -1,9 +1,16 @@
 -- What scans have that filters ask for, and what is read at their timestamps.
 use Rattle.std.proofs.Common.{◌≡◌, ◌∙◌, sym, refl, ap, subst, Result, Ok, Err, IfOk, ℕ, Bool, true, false, not, ◌&&◌, List, [], ◌∷◌, Option, ◌≤◌, arith, filter, length}
-use Rattle.std.specs.Prelude.{◌==◌, map, if◌then◌else◌}
+use Rattle.std.specs.Prelude.{◌==◌, is_some, map, None, Some, if◌then◌else◌}
 use Rattle.std.specs.List.{cons_option, filter_map, list_all}
+use Rattle.std.specs.Option.{option_map}
 use Rattle.tf_manifest.specs.declared.kind.UnitRow.TheVariants as unit
-use Rattle.tf_manifest.specs.View.{View}
+use Rattle.tf_manifest.specs.declared.kind.Kind.TheVariants as kind
+use Rattle.tf_manifest.specs.declared.kinds.Stored.{Stored}
+use Rattle.tf_manifest.specs.Row.{content_at}
+use Rattle.tf_manifest.specs.Rows.{key_of}
+use Rattle.tf_manifest.specs.Table.{Shown}
+use Rattle.tf_manifest.specs.View.{View, tables_by}
+use Rattle.tf_records.specs.declared.account.Account.{Account}
 use Rattle.tf_records.specs.declared.account_filter.AccountFilter.{AccountFilter}
 use Rattle.tf_records.specs.declared.query_filter.QueryFilter.{QueryFilter}
 use Rattle.tf_journal.specs.Answer.{answer_of}
@@ -16,6 +23,7 @@ use Rattle.tf_query.specs.declared.condition.Condition.{Condition}
 use Rattle.tf_query.specs.declared.window.Window.{Window}
 use Rattle.tf_query.specs.Asked.{account_fields_at, account_filter_at, asks_no_field, meets_at, side_at, transfer_fields_at}
 use Rattle.tf_query.specs.Conditions.{account_conditions, asks_nothing, field_conditions, meets_all, transfer_conditions}
+use Rattle.tf_query.specs.Reads.{transfer_in}
 use Rattle.tf_query.specs.declared.residual.Residual.{Residual}
 use Rattle.tf_query.specs.Residual.{AreFirstPassing, first_passing}
 use Rattle.tf_query.specs.Windows.{AreFirst, AreOfFirst, first_within}
@@ -83,6 +91,37 @@ account_fields-members view filter conditions left e some members t =
     let asks : asks_no_field filter ≡ false = sym (five (filter.user_data_128 == 0) (filter.user_data_64 == 0) (filter.user_data_32 == 0) (filter.ledger == 0) (filter.code == 0)) ∙ ap (list_all asks_nothing) (sym e) ∙ not-is _ some in
     members t ∙ ap (λ cs. meets_all view cs t) e ∙ chosen (asks_no_field filter) _ _ _ asks (five (meets_at view unit.AccountUserData128 filter.user_data_128 t) (meets_at view unit.AccountUserData64 filter.user_data_64 t) (meets_at view unit.AccountUserData32 filter.user_data_32 t) (meets_at view unit.AccountLedger filter.ledger t) (meets_at view unit.AccountCode filter.code t))
 
+-- a record is found where its row has something
+found-in : {X Y : Type 0} (f : X → Y) (o : Option X) → is_some o ≡ is_some (option_map f o)
+found-in f None = refl
+found-in f (Some x) = refl
+
+-- and a filter that asks for no field asks for each record
+not-was : (b : Bool) → false ≡ not b → b ≡ true
+not-was true e = refl
+not-was false e = e
+
+picked : (b x y z : Bool) → b ≡ true → x ≡ y → x ≡ (if b then y else z)
+picked b x y z e h = rw e h
+
+pub transfers-in : (view : View) (rows : List (Shown (Stored Transfer))) → rows ≡ tables_by view kind.Transfer → (t : ℕ) → is_some (content_at (key_of 0 t) rows) ≡ is_some (transfer_in view t)
+transfers-in view rows same t =
+    ap (λ ts. is_some (content_at (key_of 0 t) ts)) same
+    ∙ found-in (λ (s : Stored Transfer). s.record) (content_at (key_of 0 t) (tables_by view kind.Transfer))
+
+pub each-found : (view : View) (filter : QueryFilter) (conditions : List Condition) → conditions ≡ transfer_conditions filter → false ≡ not (list_all asks_nothing conditions) → (t : ℕ) → is_some (transfer_in view t) ≡ transfer_fields_at view filter t
+each-found view filter conditions e none t =
+    let asks : asks_no_field filter ≡ true = sym (five (filter.user_data_128 == 0) (filter.user_data_64 == 0) (filter.user_data_32 == 0) (filter.ledger == 0) (filter.code == 0)) ∙ ap (list_all asks_nothing) (sym e) ∙ not-was _ none in
+    picked (asks_no_field filter) _ _ _ asks refl
+
+pub each-transfer : (view : View) (filter : QueryFilter) (conditions : List Condition) (rows : List (Shown (Stored Transfer))) → conditions ≡ transfer_conditions filter → false ≡ not (list_all asks_nothing conditions) → rows ≡ tables_by view kind.Transfer → (t : ℕ) → is_some (content_at (key_of 0 t) rows) ≡ transfer_fields_at view filter t
+each-transfer view filter conditions rows e none same t = transfers-in view rows same t ∙ each-found view filter conditions e none t
+
+pub each-account : (view : View) (filter : QueryFilter) (conditions : List Condition) (rows : List (Shown (Stored Account))) → conditions ≡ account_conditions filter → false ≡ not (list_all asks_nothing conditions) → rows ≡ tables_by view kind.Account → (t : ℕ) → is_some (content_at (key_of 0 t) rows) ≡ account_fields_at view filter t
+each-account view filter conditions rows e none same t =
+    let asks : asks_no_field filter ≡ true = sym (five (filter.user_data_128 == 0) (filter.user_data_64 == 0) (filter.user_data_32 == 0) (filter.ledger == 0) (filter.code == 0)) ∙ ap (list_all asks_nothing) (sym e) ∙ not-was _ none in
+    picked (asks_no_field filter) _ _ _ asks (ap (λ ts. is_some (content_at (key_of 0 t) ts)) same ∙ found-in (λ (s : Stored Account). s.record) (content_at (key_of 0 t) (tables_by view kind.Account)))
+
 -- two readings that give the same at each element
 pub filter_map-alike : {X Y : Type 0} (f h : X → Option Y) (xs : List X) → ((x : X) → f x ≡ h x) → filter_map f xs ≡ filter_map h xs
 filter_map-alike f h [] e = refl
@@ -110,6 +149,12 @@ first-read (Ok v) items w shown d accepts left same e first order members = reco
 }
 first-read (Err e') items w shown d accepts left same e first order members = tt
 
+-- what is first in a window of those that one test accepts is so of those that another accepts alike
+pub first-alike : {T E : Type 0} (r : Result T E) (items : T → List ℕ) (w shown : Window) (has accepts : ℕ → Bool) → shown ≡ w → ((t : ℕ) → has t ≡ accepts t) → IfOk r (λ v. AreFirst shown has (items v)) → IfOk r (λ v. AreFirst w accepts (items v))
+first-alike {T} {E} (Ok v) items w shown has accepts same alike f =
+    first-read {E = E} (Ok v) items w shown shown.direction accepts f.left same (ap (λ (x : Window). x.direction) same) f.first f.in_order (λ t. f.members t ∙ alike t)
+first-alike (Err e) items w shown has accepts same alike f = tt
+
 -- what was read of a scan in a window and passed
 pub first-tested : {T E : Type 0} (r : Result T E) (items : T → List Transfer) (view : View) (w shown : Window) (residual tested : Residual) (d : Direction) (accepts : ℕ → Bool) (left : List ℕ) → shown ≡ w → tested ≡ residual → d ≡ w.direction → IfOk r (λ v. items v ≡ first_passing view tested shown left) → IfOk r (λ v. IsInOrder d left) → ((t : ℕ) → is_among t left ≡ accepts t) → IfOk r (λ v. AreFirstPassing view residual w accepts (items v))
 first-tested (Ok v) items view w shown residual tested d accepts left same alike e first order members = record {
@@ -119,6 +164,12 @@ first-tested (Ok v) items view w shown residual tested d accepts left same alike
   first = first ∙ ap (λ (x : Window). first_passing view tested x left) same ∙ ap (λ (x : Residual). first_passing view x w left) alike;
 }
 first-tested (Err e') items view w shown residual tested d accepts left same alike e first order members = tt
+
+-- and alike of those that another test accepts
+pub tested-alike : {T E : Type 0} (r : Result T E) (items : T → List Transfer) (view : View) (w shown : Window) (residual tested : Residual) (has accepts : ℕ → Bool) → shown ≡ w → tested ≡ residual → ((t : ℕ) → has t ≡ accepts t) → IfOk r (λ v. AreFirstPassing view tested shown has (items v)) → IfOk r (λ v. AreFirstPassing view residual w accepts (items v))
+tested-alike {T} {E} (Ok v) items view w shown residual tested has accepts same tests alike f =
+    first-tested {E = E} (Ok v) items view w shown residual tested shown.direction accepts f.left same tests (ap (λ (x : Window). x.direction) same) f.first f.in_order (λ t. f.members t ∙ alike t)
+tested-alike (Err e) items view w shown residual tested has accepts same tests alike f = tt
 
 -- and is an answer
 pub tested-answer : {T E : Type 0} (r : Result T E) (items : T → List Transfer) (view : View) (residual : Residual) (w : Window) (accepts : ℕ → Bool) (answer : List Transfer) → IfOk r (λ v. AreFirstPassing view residual w accepts (items v)) → ((left : List ℕ) → IsInOrder w.direction left → ((t : ℕ) → is_among t left ≡ accepts t) → first_passing view residual w left ≡ answer) → IfOk r (λ v. items v ≡ answer)

@@ -1,9 +1,11 @@
 //! The answers of filters, read from a manifest that shows a journal.
-ghost use Rattle.std.specs.Prelude.{◌≡◌, ◌≤◌, List, true, false, min, vec_capacity, IfErr, IfOk, IsOk};
+ghost use Rattle.std.specs.Prelude.{◌≡◌, ◌≤◌, List, true, false, is_some, min, vec_capacity, IfErr, IfOk, IsOk};
 ghost use Rattle.tf_journal.specs.declared.entry.Entry.{Entry};
 ghost use Rattle.tf_journal.specs.Answer.{account_transfers_of, answer_max, found_accounts_of, found_transfers_of};
 ghost use Rattle.tf_journal.specs.Filter.{is_valid_account_filter, is_valid_query_filter};
 ghost use Rattle.tf_journal.specs.Lawful.{IsSound};
+ghost use Rattle.tf_manifest.specs.Row.{content_at};
+ghost use Rattle.tf_manifest.specs.Rows.{key_of};
 ghost use Rattle.tf_manifest.specs.View.{ShowsJournal};
 ghost use Rattle.tf_query.specs.Asked.{account_fields_at, account_filter_at, transfer_fields_at};
 ghost use Rattle.tf_query.specs.Reads.{transfer_in};
@@ -22,7 +24,7 @@ use crate::timestamps::{few_within, timestamps_within};
 use crate::window::{FEW, Window};
 use std::alloc::Allocator;
 use tf_journal::{is_valid_account_filter, is_valid_query_filter};
-use tf_manifest::{Manifest, Naming};
+use tf_manifest::{Manifest, Naming, RowValue, Tables};
 use tf_records::{Account, AccountFilter, QueryFilter, Refusal, Transfer};
 
 /// The timestamps of the transfers that a valid filter of an account's transfers asks for, in its direction.
@@ -42,6 +44,21 @@ pub fn account_timestamps<A: Allocator, N: Naming, B: Allocator + Copy>(
     }
 }
 
+/// The first timestamps in a window of all records of a kind, by the row that has them.
+fn object_timestamps<V: RowValue, A: Allocator, N: Naming, B: Allocator + Copy>(
+    alloc: B,
+    objects: &Tables<'_, V, A, N>,
+    window: &Window,
+) -> Result<Vec<u64, B>, Refusal>
+    ensures ok { IfOk result (λ timestamps. AreFirst window.now (λ t. is_some (content_at (key_of 0 t) objects.now)) timestamps.items) }
+    ensures refusal { IfErr result (λ refusal. refusal ≡ Refusal.NoMemory) }
+{
+    match object_scan(alloc, objects, window.direction) {
+        Ok(scan) => timestamps_within(alloc, scan, window),
+        Err(refusal) => Err(refusal),
+    }
+}
+
 /// The timestamps of the transfers that a valid filter asks for, in its direction.
 fn transfer_timestamps<A: Allocator, N: Naming, B: Allocator + Copy>(
     alloc: B,
@@ -54,10 +71,7 @@ fn transfer_timestamps<A: Allocator, N: Naming, B: Allocator + Copy>(
     let window = Window::of_query_filter(filter);
     match narrowed(alloc, manifest, &window, None, &transfer_conditions(filter)) {
         Ok(Some(scan)) => timestamps_within(alloc, scan, &window),
-        Ok(None) => {
-            let scan = object_scan(alloc, manifest.transfers.row(0), window.direction)?;
-            timestamps_within(alloc, scan, &window)
-        }
+        Ok(None) => object_timestamps(alloc, manifest.transfers.row(0), &window),
         Err(refusal) => Err(refusal),
     }
 }
@@ -74,10 +88,7 @@ fn found_account_timestamps<A: Allocator, N: Naming, B: Allocator + Copy>(
     let window = Window::of_query_filter(filter);
     match narrowed(alloc, manifest, &window, None, &account_conditions(filter)) {
         Ok(Some(scan)) => timestamps_within(alloc, scan, &window),
-        Ok(None) => {
-            let scan = object_scan(alloc, manifest.accounts.row(0), window.direction)?;
-            timestamps_within(alloc, scan, &window)
-        }
+        Ok(None) => object_timestamps(alloc, manifest.accounts.row(0), &window),
         Err(refusal) => Err(refusal),
     }
 }
@@ -105,6 +116,23 @@ fn tested_account_transfers<A: Allocator, N: Naming, B: Allocator + Copy>(
     }
 }
 
+/// The first of all transfers in a window that pass.
+fn passing_objects<A: Allocator, N: Naming, B: Allocator + Copy>(
+    alloc: B,
+    manifest: &Manifest<'_, A, N>,
+    residual: &Residual,
+    window: &Window,
+) -> Result<Vec<Transfer, B>, Refusal>
+    ensures ok { IfOk result (λ rows. AreFirstPassing manifest.now residual.now window.now (λ t. is_some (transfer_in manifest.now t)) rows.items) }
+    ensures room { IfOk result (λ rows. vec_capacity rows ≤ window.now.most) }
+    ensures refusal { IfErr result (λ refusal. refusal ≡ Refusal.NoMemory) }
+{
+    match object_scan(alloc, manifest.transfers.row(0), window.direction) {
+        Ok(scan) => passing_within(alloc, manifest, residual, scan, window),
+        Err(refusal) => Err(refusal),
+    }
+}
+
 /// The transfers that a valid filter asks for, each of which was tested for what is left to be. Nor is this inlined.
 #[inline(never)]
 fn tested_transfers<A: Allocator, N: Naming, B: Allocator + Copy>(
@@ -127,10 +155,7 @@ fn tested_transfers<A: Allocator, N: Naming, B: Allocator + Copy>(
         &transfer_conditions(&query_lead(tested, filter)),
     ) {
         Ok(Some(scan)) => passing_within(alloc, manifest, &residual, scan, &window),
-        Ok(None) => {
-            let scan = object_scan(alloc, manifest.transfers.row(0), window.direction)?;
-            passing_within(alloc, manifest, &residual, scan, &window)
-        }
+        Ok(None) => passing_objects(alloc, manifest, &residual, &window),
         Err(refusal) => Err(refusal),
     }
 }

@@ -53,6 +53,33 @@ fn push_passing<A: Allocator, N: Naming, B: Allocator>(
     }
 }
 
+/// Reads the first transfers in a window that a scan leads to and that pass, as `passing_within` does.
+fn read_passing<P: Leaf, A: Allocator, N: Naming, B: Allocator>(
+    alloc: B,
+    manifest: &Manifest<'_, A, N>,
+    residual: &Residual,
+    scan: &mut Scan<P, B>,
+    window: &Window,
+) -> Result<Vec<Transfer, B>, Refusal>
+    ensures ok { IfOk result (λ rows. rows.items ≡ first_passing manifest.now residual.now window.now scan.old.left) }
+    ensures in_order { IsInOrder scan.old.direction scan.old.left }
+    ensures room { IfOk result (λ rows. vec_capacity rows ≤ window.now.most) }
+    ensures refusal { IfErr result (λ refusal. refusal ≡ Refusal.NoMemory) }
+{
+    seek_first(scan, window);
+    let asked = window.most.min(PART);
+    let mut part = [0; PART];
+    let mut count = read_part(scan, window, asked, &mut part);
+    let room = if count < asked { count } else { window.most };
+    let mut rows = Vec::with_capacity(alloc, room)?;
+    push_passing(manifest, residual, &part[..count], window.most, &mut rows);
+    while count == asked && rows.len() < window.most {
+        count = read_part(scan, window, asked, &mut part);
+        push_passing(manifest, residual, &part[..count], window.most, &mut rows);
+    }
+    Ok(rows)
+}
+
 /// The first transfers in a window that a scan leads to and that pass. Room for them is made once: for as many as there are
 /// timestamps in the window where one part has them all, else for as many as the window has.
 ///
@@ -71,16 +98,5 @@ pub fn passing_within<P: Leaf + Drop, A: Allocator, N: Naming, B: Allocator>(
     ensures room { IfOk result (λ rows. vec_capacity rows ≤ window.now.most) }
     ensures refusal { IfErr result (λ refusal. refusal ≡ Refusal.NoMemory) }
 {
-    seek_first(&mut scan, window);
-    let asked = window.most.min(PART);
-    let mut part = [0; PART];
-    let mut count = read_part(&mut scan, window, asked, &mut part);
-    let room = if count < asked { count } else { window.most };
-    let mut rows = Vec::with_capacity(alloc, room)?;
-    push_passing(manifest, residual, &part[..count], window.most, &mut rows);
-    while count == asked && rows.len() < window.most {
-        count = read_part(&mut scan, window, asked, &mut part);
-        push_passing(manifest, residual, &part[..count], window.most, &mut rows);
-    }
-    Ok(rows)
+    read_passing(alloc, manifest, residual, &mut scan, window)
 }

@@ -67,6 +67,29 @@ pub fn read_part<P: Leaf, B: Allocator>(
     count_within(window, &part[..taken])
 }
 
+/// Reads the first timestamps of a scan that lie in a window, as `timestamps_within` does.
+fn read_within<P: Leaf, B: Allocator>(
+    alloc: B,
+    scan: &mut Scan<P, B>,
+    window: &Window,
+) -> Result<Vec<u64, B>, Refusal>
+    ensures ok { IfOk result (λ timestamps. timestamps.items ≡ first_within window.now scan.old.left) }
+    ensures in_order { IsInOrder scan.old.direction scan.old.left }
+    ensures refusal { IfErr result (λ refusal. refusal ≡ Refusal.NoMemory) }
+{
+    seek_first(scan, window);
+    let mut part = [0; PART];
+    let mut count = read_part(scan, window, window.most, &mut part);
+    let room = if count < PART { count } else { window.most };
+    let mut timestamps = Vec::with_capacity(alloc, room)?;
+    timestamps.extend_from_slice(&part[..count])?;
+    while count == PART {
+        count = read_part(scan, window, window.most - timestamps.len(), &mut part);
+        timestamps.extend_from_slice(&part[..count])?;
+    }
+    Ok(timestamps)
+}
+
 /// The first timestamps of a scan that lie in a window. Room for them is made once: for just as many where they are few,
 /// else for as many as the window has.
 ///
@@ -81,17 +104,7 @@ pub fn timestamps_within<P: Leaf + Drop, B: Allocator>(
     ensures in_order { IfOk result (λ timestamps. IsInOrder scan.direction scan.left) }
     ensures refusal { IfErr result (λ refusal. refusal ≡ Refusal.NoMemory) }
 {
-    seek_first(&mut scan, window);
-    let mut part = [0; PART];
-    let mut count = read_part(&mut scan, window, window.most, &mut part);
-    let room = if count < PART { count } else { window.most };
-    let mut timestamps = Vec::with_capacity(alloc, room)?;
-    timestamps.extend_from_slice(&part[..count])?;
-    while count == PART {
-        count = read_part(&mut scan, window, window.most - timestamps.len(), &mut part);
-        timestamps.extend_from_slice(&part[..count])?;
-    }
-    Ok(timestamps)
+    read_within(alloc, &mut scan, window)
 }
 
 /// Moves the first timestamps of a scan that lie in a window, which has only a few, to the front of `part`, and tells how many those

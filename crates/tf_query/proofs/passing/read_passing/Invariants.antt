@@ -2,7 +2,7 @@ use Rattle.std.proofs.Common.{◌≡◌, ◌+◌, ◌≤◌, length}
 use Rattle.std.specs.Prelude.{vec_capacity}
 use Rattle.tf_query.specs.Reading.{all_within}
 use Rattle.tf_query.specs.Residual.{AreTested}
-use Rattle.tf_query.proofs.passing.passing_within.Given as goal
+use Rattle.tf_query.proofs.passing.read_passing.Given as goal
 
 abbrev pub invariant-loop-count : goal.invariant-loop-count
 invariant-loop-count g l = record {

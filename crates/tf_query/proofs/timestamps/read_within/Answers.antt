@@ -1,6 +1,6 @@
 use Rattle.std.proofs.Common.{◌∙◌, arith}
 use Rattle.tf_query.proofs.Reading.{part-in, read-next}
-use Rattle.tf_query.proofs.timestamps.timestamps_within.Goals as goal
+use Rattle.tf_query.proofs.timestamps.read_within.Goals as goal
 
 pub loop-count-preserved : goal.loop-count-preserved
 loop-count-preserved g c =

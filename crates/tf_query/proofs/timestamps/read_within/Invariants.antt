@@ -1,6 +1,6 @@
 use Rattle.std.proofs.Common.{◌≡◌, ◌+◌, ◌-◌, length}
 use Rattle.tf_query.specs.Reading.{AreRead}
-use Rattle.tf_query.proofs.timestamps.timestamps_within.Given as goal
+use Rattle.tf_query.proofs.timestamps.read_within.Given as goal
 
 abbrev pub invariant-loop-count : goal.invariant-loop-count
 invariant-loop-count g l = record {

@@ -1,8 +1,8 @@
 use Rattle.std.proofs.Common.{◌≡◌, ◌∙◌, arith, vec_capacity}
 use Rattle.tf_query.proofs.Reading.{part-in}
 use Rattle.tf_query.proofs.Testing.{tested-first, tested-next}
-use Rattle.tf_query.proofs.passing.passing_within.Goals as goal
-use Rattle.tf_query.proofs.passing.passing_within.Goals.{else-count-asked, then-count-asked}
+use Rattle.tf_query.proofs.passing.read_passing.Goals as goal
+use Rattle.tf_query.proofs.passing.read_passing.Goals.{else-count-asked, then-count-asked}
 
 pub loop-count-init : goal.loop-count-init
 loop-count-init g c =
