@@ -5,4 +5,5 @@ pub mod Script
 pub mod Engine
 pub mod Output
 -- What contracts of its parts and proofs alone speak of.
+pub mod Fields
 pub mod Run

@@ -11,6 +11,7 @@ mod ending;
 mod engine;
 mod fault;
 mod line;
+mod line_buffer;
 mod output;
 mod plain;
 mod row;

@@ -1,30 +1,57 @@
 //! The lines of commands.
 
+ghost use Rattle.std.specs.Prelude.{◌≡◌, ◌≤◌, length};
 ghost use Rattle.std.specs.List.{flat_map};
 ghost use Rattle.tf_main.specs.Line.{batch_lines, clock_line, compacted_line, count_line, failure_line, number_line, published_line, pulse_lines, refusal_line, refused_line};
 ghost use Rattle.tf_main.specs.Output.{Writes};
 
-use crate::output::write_pieces;
-use itoa::Buffer;
+use crate::line_buffer::LineBuffer;
+use crate::output::{write_bytes, write_pieces};
 use std::io;
 use std::io::Write;
 use tf_records::{Failure, Refusal};
 
+/// How many bytes the line of a name and a number may have: a name of 48, a number of 20, a space and a line feed.
+const ROOM: usize = 80;
+
 /// Writes `NAME NUMBER`.
 fn write_number<W: Write>(name: &str, number: u64, out: &mut W) -> io::Result<()>
+    requires { length name.now ≤ 48 }
     ensures { Writes (W.contents out.old) (W.contents out.new) result (number_line name.now number) }
 {
-    let mut digits = Buffer::new();
-    write_pieces(&[name, " ", digits.format(number), "\n"], out)
+    write_bytes(line_of_number(name, number).as_slice(), out)
+}
+
+/// The line `NAME NUMBER`.
+fn line_of_number(name: &str, number: u64) -> LineBuffer<ROOM>
+    requires { length name.now ≤ 48 }
+    ensures { result ≡ number_line name.now number }
+{
+    let mut line = LineBuffer::new();
+    line.put_byte(b'\n');
+    line.put_number(number.into());
+    line.put_byte(b' ');
+    line.put(name);
+    line
 }
 
 /// Writes `INDEX RESULT`.
 fn write_failure<W: Write>(failure: &Failure, out: &mut W) -> io::Result<()>
     ensures { Writes (W.contents out.old) (W.contents out.new) result (failure_line failure.now) }
 {
-    let mut digits = Buffer::new();
-    let index = digits.format(failure.index);
-    write_pieces(&[index, " ", failure.outcome.name(), "\n"], out)
+    write_bytes(line_of_failure(failure).as_slice(), out)
+}
+
+/// The line `INDEX RESULT`.
+fn line_of_failure(failure: &Failure) -> LineBuffer<ROOM>
+    ensures { result ≡ failure_line failure.now }
+{
+    let mut line = LineBuffer::new();
+    line.put_byte(b'\n');
+    line.put(failure.outcome.name());
+    line.put_byte(b' ');
+    line.put_number(failure.index.into());
+    line
 }
 
 /// Writes the lines of a batch that was run: `INDEX RESULT` for each failed event, then `clock C`.

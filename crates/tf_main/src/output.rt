@@ -18,7 +18,7 @@ pub fn write_pieces<W: Write>(pieces: &[&str], out: &mut W) -> io::Result<()>
 }
 
 /// Writes bytes from the first on until the writer has taken them all or fails. Takes no memory.
-fn write_bytes<W: Write>(bytes: &[u8], out: &mut W) -> io::Result<()>
+pub fn write_bytes<W: Write>(bytes: &[u8], out: &mut W) -> io::Result<()>
     ensures { Writes (W.contents out.old) (W.contents out.new) result bytes.now }
 {
     let mut rest = bytes;

@@ -1,15 +1,20 @@
 //! The lines of a query.
 
-ghost use Rattle.std.specs.Prelude.{ℕ, List, map};
+ghost use Rattle.std.specs.Prelude.{◌≡◌, ℕ, ◌+◌, ◌≤◌, List, ◌++◌, length, map, IsTrue};
 ghost use Rattle.tf_main.specs.Line.{account_line, balance_line, field_of, field_text, fields_line, query_lines, transfer_line};
+ghost use Rattle.tf_main.specs.Fields.{are_short};
+ghost use Rattle.tf_main.specs.declared.row.TheConstants.{ROOM};
 ghost use Rattle.tf_main.specs.Output.{Writes};
 
 use crate::line::write_count;
-use crate::output::write_pieces;
-use itoa::Buffer;
+use crate::line_buffer::LineBuffer;
+use crate::output::write_bytes;
 use std::io;
 use std::io::Write;
 use tf_records::{Account, AccountBalance, Transfer};
+
+/// How many bytes a row's line may have: at most 13 fields of 58, a kind of 17 and a line feed.
+const ROOM: usize = 784;
 
 /// What a query gives rows of: each prints as one line.
 pub trait Row {
@@ -83,23 +88,45 @@ impl Row for AccountBalance {
 
 /// Writes `KIND NAME=NUMBER ..`.
 fn write_fields<W: Write>(kind: &str, fields: &[(&str, u128)], out: &mut W) -> io::Result<()>
+    requires kind { length kind.now ≤ 17 }
+    requires few { length fields.now ≤ 13 }
+    requires short { IsTrue (are_short fields.now) }
     ensures { Writes (W.contents out.old) (W.contents out.new) result
         (fields_line kind.now (map field_of fields.now)) }
 {
-    write_pieces(&[kind], out)?;
-    for (name, number) in fields {
-        write_field(name, *number, out)?;
-    }
-    write_pieces(&["\n"], out)
+    write_bytes(line_of_fields(kind, fields).as_slice(), out)
 }
 
-/// Writes ` NAME=NUMBER`.
-fn write_field<W: Write>(name: &str, number: u128, out: &mut W) -> io::Result<()>
-    ensures { Writes (W.contents out.old) (W.contents out.new) result
-        (field_text (name.now, number)) }
+/// The line `KIND NAME=NUMBER ..`.
+fn line_of_fields(kind: &str, fields: &[(&str, u128)]) -> LineBuffer<ROOM>
+    requires kind { length kind.now ≤ 17 }
+    requires few { length fields.now ≤ 13 }
+    requires short { IsTrue (are_short fields.now) }
+    ensures { result ≡ fields_line kind.now (map field_of fields.now) }
 {
-    let mut digits = Buffer::new();
-    write_pieces(&[" ", name, "=", digits.format(number)], out)
+    let mut line = LineBuffer::new();
+    line.put_byte(b'\n');
+    let mut rest = fields.len();
+    while rest > 0 {
+        rest -= 1;
+        let (name, number) = fields[rest];
+        put_field(name, number, &mut line);
+    }
+    line.put(kind);
+    line
+}
+
+/// Puts ` NAME=NUMBER` before what a line holds.
+fn put_field(name: &str, number: u128, line: &mut LineBuffer<ROOM>)
+    requires short { length name.now ≤ 17 }
+    requires room { length line.old + 58 ≤ ROOM }
+    ensures text { line.new ≡ field_text (name.now, number) ++ line.old }
+    ensures grows { length line.new ≤ length line.old + 58 }
+{
+    line.put_number(number);
+    line.put_byte(b'=');
+    line.put(name);
+    line.put_byte(b' ');
 }
 
 /// Writes each row's line and then `rows K`. Takes no memory.
