@@ -1,4 +1,4 @@
--- What a row put among others, or taken out, says of each key.
+-- What a row put among others says of each key.
 use Rattle.std.proofs.Common.{◌≡◌, ◌≢◌, ℕ, List, [], ◌∷◌, ◌++◌, Some, None, Bool, true, false, cond, filter, find, refl, sym, ◌∙◌, ap}
 use Rattle.std.specs.Ordering.{nat_cmp, is_lt, is_eq, is_gt}
 use Rattle.std.specs.Option.{option_map}
@@ -7,7 +7,7 @@ use Rattle.std.specs.declared.cmp.Ordering.{Ordering}
 use Rattle.std.specs.declared.cmp.Ordering.TheVariants.{Less, Equal, Greater}
 use Rattle.std.proofs.lemmas.Cmp.{then_total, on_total, nat_cmp_total, tied_itself}
 use Rattle.std.proofs.lemmas.Map.Lookups.{CmpEqualImpliesEq, exact_pairs, exact_unsigned}
-use Rattle.tf_btree.specs.Rows.{rows_below, rows_above, value_at, with_row, without_row}
+use Rattle.tf_btree.specs.Rows.{rows_below, rows_above, value_at, with_row}
 use Rattle.tf_table.specs.declared.key.Key.{Key}
 use Rattle.tf_table.specs.Key.{key_cmp}
 
@@ -112,12 +112,6 @@ module _ {E : Type 0} where
   pub with_row-there : (key k : Key) (e : E) (rows : List (Key × E)) → k ≢ key → value_at key_cmp k (with_row key_cmp key e rows) ≡ value_at key_cmp k rows
   with_row-there key k e rows n =
       ap (option_map (λ (r : Key × E). r.1)) (middle_there key k rows ((key, e) ∷ []) n (ap (λ b. cond b (Some (key, e)) None) (not_both (has k (key, e)) (λ t. absurd (n (sym (key_of k (key, e) t)))))))
-
-  pub without_row-here : (key : Key) (rows : List (Key × E)) → value_at key_cmp key (without_row key_cmp key rows) ≡ None
-  without_row-here key rows = ap (option_map (λ (r : Key × E). r.1)) (middle_here key rows [])
-
-  pub without_row-there : (key k : Key) (rows : List (Key × E)) → k ≢ key → value_at key_cmp k (without_row key_cmp key rows) ≡ value_at key_cmp k rows
-  without_row-there key k rows n = ap (option_map (λ (r : Key × E). r.1)) (middle_there key k rows [] n refl)
 
 -- keys are the same or not
 pub by_key : (P : Type 0) (a b : Key) → (a ≡ b → P) → (a ≢ b → P) → P

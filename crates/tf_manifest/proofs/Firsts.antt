@@ -1,12 +1,10 @@
 -- The first key with a value in a row, found by a walk over the keys that its tables have.
-use Rattle.std.proofs.Common.{◌≡◌, ℕ, ◌+◌, ◌<◌, List, [], ◌∷◌, ◌++◌, length, map, take, get_or, Option, Some, None, IsSome, Bool, true, false, not, sym, ◌∙◌, ap, subst}
-use Rattle.std.specs.Option.{is_some, option_copied, option_flatten}
+use Rattle.std.proofs.Common.{◌≡◌, ℕ, ◌+◌, ◌<◌, List, [], ◌∷◌, ◌++◌, length, map, take, get_or, Option, Some, None, IsSome, false, sym, ◌∙◌, ap, subst}
+use Rattle.std.specs.Option.{is_some, option_flatten}
 use Rattle.std.specs.Ordering.{is_lt}
 use Rattle.std.specs.declared.cmp.Ordering.TheVariants.{Less}
-use Rattle.std.proofs.lemmas.Bool.{false≢true}
 use Rattle.std.proofs.lemmas.Cmp.{tied_itself}
 use Rattle.std.proofs.lemmas.List.{take_more, map-append}
-use denote.Ref.{Bor}
 use Rattle.tf_btree.specs.Rows.{rows_above}
 use Rattle.tf_table.specs.declared.key.Key.{Key}
 use Rattle.tf_table.specs.Key.{key_cmp}
@@ -18,15 +16,6 @@ use Rattle.tf_table.proofs.Keys.{keys_total, exact_keys}
 use Rattle.tf_table.proofs.Rising.{less_back, not_below_more, not_less_from}
 use Rattle.tf_manifest.specs.Table.{Shown}
 use Rattle.tf_manifest.specs.Row.{lists_of, value_in}
-
--- what a look-up says
-pub nothing_found : {X : Type 0} (r : Option (Bor X)) (value : Option X) (b : Bool) → option_copied r ≡ value → is_some r ≡ not b → b ≡ true → value ≡ None
-nothing_found None value b e n t = sym e
-nothing_found (Some x) value b e n t = absurd (false≢true (sym (n ∙ ap not t)))
-
-pub value_found : {X : Type 0} (r : Option (Bor X)) (value : Option X) (b : Bool) → option_copied r ≡ value → is_some r ≡ not b → b ≡ false → IsSome value
-value_found None value b e n t = absurd (false≢true (n ∙ ap not t))
-value_found (Some x) value b e n t = ap is_some (sym e)
 
 module _ {V : Type 0} where
   -- one more table

@@ -3,7 +3,6 @@ pub mod Picks
 pub mod Maps
 pub mod Installs
 pub mod Entries
-pub mod Wholes
 pub mod Examples
 pub mod Members
 pub mod Pairs

@@ -8,7 +8,6 @@ pub mod Shows
 pub mod Run
 pub mod Limit
 pub mod Install
-pub mod Whole
 pub mod View
 pub mod Registries
 pub mod Jobs

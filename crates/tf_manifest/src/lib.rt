@@ -27,7 +27,6 @@ mod slots;
 mod tables;
 mod uninstalled;
 mod value;
-mod whole;
 
 pub use body::Body;
 pub use job::{RowJob, RowMerged};
@@ -48,4 +47,3 @@ pub use slots::TableRef;
 pub use tables::Tables;
 pub use uninstalled::{RowUninstalled, Uninstalled};
 pub use value::{IdStamp, State, Value};
-pub use whole::WholeRow;

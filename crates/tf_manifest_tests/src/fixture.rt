@@ -1,17 +1,18 @@
 //! Rows of small tables. Contracts tell of a row how much it weighs and how many tables it has, and no more.
-ghost use Rattle.std.specs.Prelude.{◌≡◌, ◌+◌, ◌<◌, ◌≤◌, length, OnOk, IfOk};
-ghost use Rattle.tf_manifest.specs.Row.{weight};
+ghost use Rattle.std.specs.Prelude.{◌≡◌, ◌+◌, ◌<◌, ◌≤◌, [], length, slice_index_or, OnOk, IfOk};
+ghost use Rattle.tf_manifest.specs.Reference.{shown_of};
+ghost use Rattle.tf_manifest.specs.Row.{is_nil, weight};
+ghost use Rattle.tf_manifest.specs.View.{AreLight};
 
 use std::alloc::Allocator;
 use std::process::Abort;
 use std::sync::Wait;
 use std::test::Fail;
 use tf_btree::Tree;
-use tf_manifest::{Naming, Pushes, Registry, RowMerged, RowUninstalled, WholeRow};
-use tf_table::Key;
-
-/// A row whose mutable table is a tree.
-pub type TreeRow<'r, A, N> = WholeRow<'r, u64, Tree<Key, Option<u64>, A>, A, N>;
+use tf_manifest::{
+    Body, KindRows, Naming, Pushes, Registry, RowMerged, RowValue, TableRef, Tables, Uninstalled,
+};
+use tf_table::{Key, seal};
 
 /// What became of an install.
 #[derive(Clone, Copy, Debug, PartialEq, Eq)]
@@ -30,93 +31,188 @@ pub fn key(value: u64) -> Key {
     }
 }
 
-/// Puts a row whose key and value are this number, and makes it a sealed table of its own.
-pub fn grow<'r, A: Allocator + Clone, N: Naming, R: Wait>(
+/// A table of level 0 with one row, the key of a number with this entry.
+pub fn table<V: RowValue, A: Allocator + Clone + Copy>(
+    alloc: A,
+    number: u64,
+    entry: Option<V>,
+    oldest: bool,
+) -> Result<Body<V, A>, Fail>
+    ensures level { IfOk result (λ body. body.level ≡ 0) }
+    ensures oldest { IfOk result (λ body. body.oldest ≡ oldest) }
+{
+    let mut tree = Tree::new_in(alloc);
+    if tree.insert(key(number), entry).is_err() {
+        drop(tree);
+        return Err(Fail::new("no memory for a row"));
+    }
+    let sealed = seal(alloc, &tree);
+    drop(tree);
+    match sealed {
+        Ok(sealed) => Ok(Body::new(sealed, 0, oldest)),
+        Err(_) => Err(Fail::new("no memory for a table")),
+    }
+}
+
+/// Pushes a table with one row, and puts it in front of a row.
+pub fn grow<'r, A: Allocator + Clone + Copy, N: Naming, R: Wait>(
     rt: &R,
     alloc: A,
     registry: &'r Registry<u64, A>,
-    row: &mut TreeRow<'r, A, N>,
-    value: u64,
+    row: &mut Tables<'r, u64, A, N>,
+    number: u64,
+    entry: Option<u64>,
 ) -> Result<(), Fail>
     requires here { registry.now ≡ N.shelf 0 }
-    requires room { length row.old.tables < 64 }
-    requires light { weight row.old.tables < 1000 }
-    ensures weight { OnOk result (weight row.new.tables ≡ weight row.old.tables + 1) }
-    ensures length { OnOk result (length row.new.tables ≡ length row.old.tables + 1) }
+    requires room { length row.old < 64 }
+    requires light { weight row.old < 1000 }
+    ensures weight { OnOk result (weight row.new ≡ weight row.old + 1) }
+    ensures length { OnOk result (length row.new ≡ length row.old + 1) }
 {
-    let _ = row.put(key(value), Some(value))?;
-    let body = row.seal(alloc)?;
-    let Ok(pushed) = registry.push(rt, body) else {
-        return Err(Fail::new("no memory for a push"));
-    };
-    row.settle(pushed);
-    Ok(())
+    let body = table(alloc, number, entry, row.is_empty())?;
+    match registry.push(rt, body) {
+        Ok(pushed) => {
+            row.add(pushed);
+            Ok(())
+        }
+        Err(_) => Err(Fail::new("no memory for a push")),
+    }
 }
 
-/// A row of so many tables of one row each, whose keys and values are the numbers below.
-pub fn row_of<'r, A: Allocator + Clone, N: Naming, R: Wait>(
+/// Gives a row that has a table for each number below `first` one for each number below `end`, of one row whose key and
+/// value are the number.
+pub fn grow_to<'r, A: Allocator + Clone + Copy, N: Naming, R: Wait>(
     rt: &R,
-    alloc: &A,
+    alloc: A,
     registry: &'r Registry<u64, A>,
-    tables: u64,
-) -> Result<TreeRow<'r, A, N>, Fail>
+    row: &mut Tables<'r, u64, A, N>,
+    first: u64,
+    end: u64,
+) -> Result<(), Fail>
     requires here { registry.now ≡ N.shelf 0 }
-    requires few { tables ≤ 64 }
-    ensures weight { IfOk result (λ row. weight row.tables ≡ tables) }
-    ensures length { IfOk result (λ row. length row.tables ≡ tables) }
+    requires few { first ≤ end × end ≤ 64 }
+    requires length { length row.old ≡ first }
+    requires weight { weight row.old ≡ first }
+    ensures length { OnOk result (length row.new ≡ end) }
+    ensures weight { OnOk result (weight row.new ≡ end) }
 {
-    let mut row = WholeRow::new(alloc.clone()?, registry);
-    for value in 0..tables {
-        grow(rt, alloc.clone()?, registry, &mut row, value)?;
+    for number in first..end {
+        grow(rt, alloc, registry, row, number, Some(number))?;
     }
-    Ok(row)
+    Ok(())
 }
 
 /// The run that is to be merged next, merged, if there is one and memory for it.
 pub fn merged<'r, A: Allocator + Clone, N: Naming>(
     alloc: A,
-    row: &TreeRow<'r, A, N>,
+    row: &Tables<'r, u64, A, N>,
 ) -> Option<RowMerged<'r, u64, A, N>> {
-    let job = row.tables().pick()?;
-    job.merge(alloc).ok()
+    row.pick()?.merge(alloc).ok()
 }
 
-/// Installs a merged table, and tells what became of it.
-pub fn install<'r, A: Allocator + Clone, N: Naming>(
-    rt: &impl Wait,
+/// Installs a merged table, if there is one, which has this outcome.
+pub fn assert_installs<'r, A: Allocator + Clone, N: Naming, R: Abort + Wait>(
+    rt: &R,
     registry: &'r Registry<u64, A>,
-    row: &mut TreeRow<'r, A, N>,
+    row: &mut Tables<'r, u64, A, N>,
     pushes: &mut Pushes,
-    out: RowMerged<'r, u64, A, N>,
-) -> Outcome
+    out: Option<RowMerged<'r, u64, A, N>>,
+    outcome: Outcome,
+)
     requires here { registry.now ≡ N.shelf 0 }
 {
-    match row.install(rt, registry, pushes, out) {
+    match out {
+        Some(out) => {
+            let done = outcome_of(row.install(rt, registry, pushes, out));
+            assert!(rt; done == outcome);
+        }
+        None => panic!(rt; "nothing was merged"),
+    }
+}
+
+/// What an install answered.
+pub fn outcome_of<M: Drop>(answer: Result<(), Uninstalled<M>>) -> Outcome {
+    match answer {
         Ok(()) => Outcome::Installed,
-        Err(RowUninstalled::Stale) => Outcome::Stale,
-        Err(RowUninstalled::RegistryFull) => Outcome::RegistryFull,
-        Err(RowUninstalled::NoMemory(_)) => Outcome::NoMemory,
+        Err(Uninstalled::Stale) => Outcome::Stale,
+        Err(Uninstalled::RegistryFull) => Outcome::RegistryFull,
+        Err(Uninstalled::NoMemory(_)) => Outcome::NoMemory,
     }
 }
 
-/// The row has so many tables, and its content has exactly the numbers below `rows`.
-pub fn assert_row<A: Allocator + Clone, N: Naming>(
+/// The row has so many tables, and its content has exactly the numbers below `numbers`, each with itself as its value.
+pub fn assert_row<A: Allocator, N: Naming>(
     rt: &impl Abort,
-    row: &TreeRow<'_, A, N>,
+    row: &Tables<'_, u64, A, N>,
     tables: usize,
-    rows: u64,
+    numbers: u64,
 ) {
-    assert_eq!(rt; row.tables().len(), tables);
-    for value in 0..rows {
-        assert!(rt; value_at(row, value) == Some(value), "the row of {value}");
-    }
-    assert!(rt; value_at(row, rows).is_none());
+    assert!(rt; row.len() == tables);
+    assert!(rt; has_numbers(row, numbers));
 }
 
-/// The value of the key of a number.
-pub fn value_at<A: Allocator + Clone, N: Naming>(
-    row: &TreeRow<'_, A, N>,
-    value: u64,
-) -> Option<u64> {
-    row.find(&key(value)).copied()
+fn has_numbers<A: Allocator, N: Naming>(row: &Tables<'_, u64, A, N>, numbers: u64) -> bool {
+    for number in 0..numbers {
+        match row.find(&key(number)) {
+            Some(value) if *value == number => {}
+            _ => return false,
+        }
+    }
+    row.find(&key(numbers)).is_none()
+}
+
+/// Puts a table in front of one of the rows of a kind. One more was pushed than these.
+fn put_in_front<'r, V: RowValue, A: Allocator, N: Naming, const COUNT: usize>(
+    rows: &mut KindRows<'r, V, A, N, COUNT>,
+    at: usize,
+    pushes: Pushes,
+    pushed: TableRef<'r, V, A, N>,
+)
+    requires at { at < COUNT }
+    requires room { length (slice_index_or rows.old at []) < 64 }
+    requires light { AreLight pushes.count rows.old }
+    requires limit { pushes.count < pushes.limit }
+    requires level { (shown_of pushed).table.level ≡ 0 }
+    requires oldest { (shown_of pushed).table.oldest ≡ is_nil (slice_index_or rows.old at []) }
+    ensures { AreLight (pushes.count + 1) rows.new }
+{
+    // Only these two tell that the limit isn't above the greatest, and how many rows there are.
+    let _count = pushes.count();
+    let _row = rows.row(at);
+    rows.add(at, pushed);
+}
+
+/// Pushes a table with one row, the key of a number with this value, and puts it in front of one of the rows of a
+/// kind.
+pub fn grow_at<
+    'r,
+    V: RowValue,
+    A: Allocator + Clone + Copy,
+    N: Naming,
+    R: Wait,
+    const COUNT: usize,
+>(
+    rt: &R,
+    alloc: A,
+    rows: &mut KindRows<'r, V, A, N, COUNT>,
+    at: usize,
+    pushes: &mut Pushes,
+    number: u64,
+    value: V,
+) -> Result<(), Fail>
+    requires at { at < COUNT }
+    requires light { AreLight pushes.old.count rows.old }
+    ensures light { AreLight pushes.new.count rows.new }
+    ensures counted { pushes.old.count ≤ pushes.new.count }
+{
+    if rows.row(at).len() == 64 || pushes.is_full() {
+        return Err(Fail::new("no room for a table"));
+    }
+    let before = *pushes;
+    let body = table(alloc, number, Some(value), rows.row(at).is_empty())?;
+    let Ok(pushed) = rows.push(rt, pushes, body) else {
+        return Err(Fail::new("no memory for a push"));
+    };
+    put_in_front(rows, at, before, pushed);
+    Ok(())
 }

@@ -1,29 +1,27 @@
 //! Kinds of rows and of values.
-ghost use Rattle.std.specs.Prelude.{◌≡◌, ◌+◌, ◌<◌, [], length, slice_index_or, OnOk};
-ghost use Rattle.tf_manifest.specs.Row.{weight};
+ghost use Rattle.std.specs.Prelude.{◌≡◌, ◌≤◌};
+ghost use Rattle.tf_manifest.specs.View.{AreLight};
 
-use crate::fixture::{Outcome, key};
+use crate::fixture::{Outcome, grow_at, key, merged, outcome_of};
 use std::alloc::Global;
-use std::marker::Brand;
 use std::process::Abort;
 use std::sync::Wait;
 use std::test::Fail;
-use tf_btree::Tree;
 use tf_journal::Status;
 use tf_manifest::{
-    Body, IdStamp, Kind, KindRows, Naming, Pushes, Registry, Row, RowMerged, RowUninstalled,
-    RowValue, StampRow, State, Stored, UnitRow, Value,
+    IdStamp, Kind, KindRows, Naming, Pushes, Registry, Row, RowMerged, RowValue, StampRow, State,
+    Stored, UnitRow, Value,
 };
 use tf_records::Sums;
-use tf_table::{Repeats, seal};
+use tf_table::Repeats;
 
 /// Two rows of timestamps.
 type TwoRows<'r, N> = KindRows<'r, u64, Global, N, 2>;
 
 /// The row has this number, and stands at that place among all.
 fn assert_number(rt: &impl Abort, row: Row, number: u32) {
-    assert_eq!(rt; row.number(), number);
-    assert!(rt; Row::ALL.get(number as usize) == Some(&row), "row {number}");
+    assert!(rt; row.number() == number);
+    assert!(rt; Row::ALL.get(number as usize) == Some(&row));
 }
 
 #[test]
@@ -40,8 +38,8 @@ fn rows_have_their_kinds(rt: HostRuntime) -> Result<(), Fail> {
     let (entries, expiry) = (StampRow::ExpiryEntries, UnitRow::Expiry);
     assert!(rt; Row::ExpiryEntries.kind() == Kind::Stamp(entries));
     assert!(rt; Row::Expiry.kind() == Kind::Unit(expiry));
-    assert_eq!(rt; entries.index() + 1, StampRow::COUNT);
-    assert_eq!(rt; expiry.index() + 1, UnitRow::COUNT);
+    assert!(rt; entries.index() + 1 == StampRow::COUNT);
+    assert!(rt; expiry.index() + 1 == UnitRow::COUNT);
     Ok(())
 }
 
@@ -73,131 +71,80 @@ fn stored_sums_and_states_are_those_of_rows(rt: HostRuntime) -> Result<(), Fail>
     Ok(())
 }
 
-/// Adds a table with one row, whose key and value are this number, to the second of two rows.
-fn grow<'r, N: Naming>(
-    rt: &impl Wait,
-    alloc: Global,
-    registry: &'r Registry<u64, Global>,
-    rows: &mut TwoRows<'r, N>,
-    value: u64,
-) -> Result<(), Fail>
-    requires here { registry.now ≡ N.shelf 0 }
-    requires room { length (slice_index_or rows.old 1 []) < 60 }
-    requires light { weight (slice_index_or rows.old 1 []) < 60 }
-    ensures weight { OnOk result (weight (slice_index_or rows.new 1 []) ≡ weight (slice_index_or rows.old 1 []) + 1) }
-    ensures length { OnOk result (length (slice_index_or rows.new 1 []) ≡ length (slice_index_or rows.old 1 []) + 1) }
-{
-    let mut tree = Tree::new_in(alloc);
-    let Ok(_) = tree.insert(key(value), Some(value)) else {
-        return Err(Fail::new("no memory for a row"));
-    };
-    let body = Body::new(seal(alloc, &tree)?, 0, rows.row(1).is_empty());
-    let Ok(pushed) = registry.push(rt, body) else {
-        return Err(Fail::new("no memory for a push"));
-    };
-    rows.add(1, pushed);
-    Ok(())
-}
-
-/// Two rows, of which the second has four tables of one row each, whose keys and values are 0 to 3.
+/// Gives the second row four tables of one row each, with the keys of 0 to 3 and the value 7.
 fn four_tables<'r, N: Naming>(
     rt: &impl Wait,
     alloc: Global,
-    registry: &'r Registry<u64, Global>,
-) -> Result<TwoRows<'r, N>, Fail>
-    requires here { registry.now ≡ N.shelf 0 }
-{
-    let mut rows = KindRows::new(registry);
-    grow(rt, alloc, registry, &mut rows, 0)?;
-    grow(rt, alloc, registry, &mut rows, 1)?;
-    grow(rt, alloc, registry, &mut rows, 2)?;
-    grow(rt, alloc, registry, &mut rows, 3)?;
-    Ok(rows)
-}
-
-/// The run of the second row that is to be merged next, merged.
-fn merged<'r, N: Naming>(
-    alloc: Global,
-    rows: &TwoRows<'r, N>,
-) -> Result<RowMerged<'r, u64, Global, N>, Fail> {
-    let job = rows.row(1).pick().ok_or("no job")?;
-    Ok(job.merge(alloc)?)
-}
-
-/// Installs a merged table in the second row, and tells what became of it.
-fn install<'r, N: Naming>(
-    rt: &impl Wait,
     rows: &mut TwoRows<'r, N>,
     pushes: &mut Pushes,
-    out: RowMerged<'r, u64, Global, N>,
-) -> Outcome {
-    match rows.install(rt, 1, pushes, out) {
-        Ok(()) => Outcome::Installed,
-        Err(RowUninstalled::Stale) => Outcome::Stale,
-        Err(RowUninstalled::RegistryFull) => Outcome::RegistryFull,
-        Err(RowUninstalled::NoMemory(_)) => Outcome::NoMemory,
+) -> Result<(), Fail>
+    requires light { AreLight pushes.old.count rows.old }
+{
+    grow_at(rt, alloc, rows, 1, pushes, 0, 7)?;
+    grow_at(rt, alloc, rows, 1, pushes, 1, 7)?;
+    grow_at(rt, alloc, rows, 1, pushes, 2, 7)?;
+    grow_at(rt, alloc, rows, 1, pushes, 3, 7)
+}
+
+/// Installs a merged table in the second row, if there is one, which has this outcome.
+fn assert_installs<'r, N: Naming>(
+    rt: &(impl Abort + Wait),
+    rows: &mut TwoRows<'r, N>,
+    pushes: &mut Pushes,
+    out: Option<RowMerged<'r, u64, Global, N>>,
+    outcome: Outcome,
+) {
+    match out {
+        Some(out) => {
+            let done = outcome_of(rows.install(rt, 1, pushes, out));
+            assert!(rt; done == outcome);
+        }
+        None => panic!(rt; "nothing was merged"),
     }
 }
 
 /// The second row has so many tables and the key 2, and the first has none.
 fn assert_rows<N: Naming>(rt: &impl Abort, rows: &TwoRows<'_, N>, tables: u32) {
-    assert_eq!(rt; rows.references(0), 0);
-    assert_eq!(rt; rows.references(1), tables);
-    assert!(rt; rows.find(1, &key(2)) == Some(Value::Stamp(2)));
+    assert!(rt; rows.references(0) == 0);
+    assert!(rt; rows.references(1) == tables);
+    assert!(rt; matches!(rows.find(1, &key(2)), Some(Value::Stamp(7))));
     assert!(rt; rows.find(0, &key(2)).is_none());
 }
 
-/// An install that the limit refuses changes nothing.
-fn refused_at_the_limit<N: Naming>(
+/// Of three merges of one run one is refused by a limit, which changes nothing, one installed, and one stale.
+fn installs_once<'r, N: Naming>(
     rt: &(impl Abort + Wait),
     alloc: Global,
-    rows: &mut TwoRows<'_, N>,
-) -> Result<(), Fail> {
-    let out = merged(alloc, rows)?;
-    let full = install(rt, rows, &mut Pushes::new(0), out);
-    assert_eq!(rt; full, Outcome::RegistryFull);
+    rows: &mut TwoRows<'r, N>,
+    pushes: &mut Pushes,
+) {
+    let late = merged(alloc, rows.row(1));
+    let full = merged(alloc, rows.row(1));
+    assert_installs(rt, rows, &mut Pushes::new(0), full, Outcome::RegistryFull);
     assert_rows(rt, rows, 4);
-    Ok(())
-}
-
-/// Of two merges of one run the first is installed.
-fn installed_once<N: Naming>(
-    rt: &(impl Abort + Wait),
-    alloc: Global,
-    rows: &mut TwoRows<'_, N>,
-) -> Result<(), Fail> {
-    let first = merged(alloc, rows)?;
-    let second = merged(alloc, rows)?;
-    let mut pushes = Pushes::new(7);
-    let done = install(rt, rows, &mut pushes, first);
-    assert_eq!(rt; done, Outcome::Installed);
-    let stale = install(rt, rows, &mut pushes, second);
-    assert_eq!(rt; stale, Outcome::Stale);
-    assert_eq!(rt; pushes.count(), 1);
+    let next = merged(alloc, rows.row(1));
+    assert_installs(rt, rows, pushes, next, Outcome::Installed);
+    assert_installs(rt, rows, pushes, late, Outcome::Stale);
     assert_rows(rt, rows, 3);
-    Ok(())
+    assert!(rt; pushes.count() == 5);
 }
 
-fn one_row_of_two<N: Naming>(
+/// Two rows, of which the second changes, and a copy that stays.
+pub fn changes_one_row<N: Naming>(
     rt: &(impl Abort + Wait),
     alloc: Global,
     registry: &Registry<u64, Global>,
 ) -> Result<(), Fail>
     requires here { registry.now ≡ N.shelf 0 }
 {
-    let mut rows = four_tables::<N>(rt, alloc, registry)?;
-    let mut copy = KindRows::<u64, Global, N, 2>::new(registry);
+    let mut pushes = Pushes::new(7);
+    let mut rows = TwoRows::<'_, N>::new(registry);
+    let mut copy = TwoRows::<'_, N>::new(registry);
+    let grown = four_tables(rt, alloc, &mut rows, &mut pushes);
     copy.copy_from(&rows);
-    refused_at_the_limit(rt, alloc, &mut rows)?;
-    installed_once(rt, alloc, &mut rows)?;
+    installs_once(rt, alloc, &mut rows, &mut pushes);
     assert_rows(rt, &copy, 4);
-    Ok(())
-}
-
-#[test]
-fn an_install_changes_one_row_of_its_kind(rt: HostRuntime) -> Result<(), Fail> {
-    let registry = Registry::new(rt.alloc())?;
-    let tried = one_row_of_two::<Brand>(&rt, rt.alloc(), &registry);
-    drop(registry);
-    tried
+    drop(copy);
+    drop(rows);
+    grown
 }

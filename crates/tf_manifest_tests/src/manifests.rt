@@ -1,9 +1,8 @@
-//! The row expiry of a manifest of all 21 rows.
-ghost use Rattle.std.specs.Prelude.{◌≡◌, ◌≤◌, IfOk};
+//! The row expiry of a manifest of all 21 rows, under a limit of seven pushes.
+ghost use Rattle.std.specs.Prelude.{◌≡◌, ◌≤◌};
 ghost use Rattle.tf_manifest.specs.Registries.{AreShelves};
-ghost use Rattle.tf_manifest.specs.View.{AreLight};
 
-use crate::fixture::{Outcome, key};
+use crate::fixture::{Outcome, grow_at, key, outcome_of};
 use std::alloc::Global;
 use std::marker::{Brand, Send, Sync};
 use std::process::Abort;
@@ -11,197 +10,230 @@ use std::sync::Wait;
 use std::test::Fail;
 use std::thread;
 use std::thread::Threads;
-use tf_btree::Tree;
-use tf_manifest::{
-    Body, KindRows, Manifest, Merged, Naming, Pushes, Registries, Row, Uninstalled, UnitRow, Value,
-};
-use tf_table::{Key, seal};
+use tf_manifest::{Job, Manifest, Merged, Naming, Registries, Row, UnitRow, Value};
+use tf_table::Key;
 
-/// The rows of a manifest that store nothing beside their keys.
-type Units<'r, N> = KindRows<'r, (), Global, N, 13>;
+/// Rows of which one is tried. What tries them names none of the types of a manifest, which are dear to own.
+trait Tried {
+    /// A run of the row that is to be merged.
+    type Job: Drop;
+    /// A run of the row with the table that it was merged into.
+    type Merged: Drop;
 
-/// A table with the key of this number alone.
-fn table_of(alloc: Global, number: u64, is_oldest: bool) -> Result<Body<(), Global>, Fail>
-    ensures { IfOk result (λ body. (body.level ≡ 0) × (body.oldest ≡ is_oldest)) }
-{
-    let mut tree = Tree::new_in(alloc);
-    let Ok(_) = tree.insert(key(number), Some(())) else {
-        return Err(Fail::new("no memory for a row"));
-    };
-    Ok(Body::new(seal(alloc, &tree)?, 0, is_oldest))
+    /// Adds a table with the key of this number to the row.
+    fn grow<R: Wait>(&mut self, rt: &R, alloc: Global, number: u64) -> Result<(), Fail>;
+
+    /// The run of the row that is to be merged next, if there is one.
+    fn job(&self) -> Option<Self::Job>;
+
+    /// Merges a run, if there is memory for it.
+    fn merge(job: &Self::Job, alloc: Global) -> Option<Self::Merged>;
+
+    /// Installs a merged table, and tells what became of it.
+    fn install<R: Wait>(&mut self, rt: &R, out: Self::Merged) -> Outcome;
+
+    /// Makes the rows what others are, which what happens to those leaves as they are then.
+    fn copy_from(&mut self, other: &Self);
+
+    /// Whether the row has so many tables, and exactly the keys of the numbers below `keys`, and so many tables were pushed.
+    fn is_seen(&self, tables: u32, keys: u64, pushed: u32) -> bool;
 }
 
-/// Adds a table with the key of this number to the row expiry.
-#[tactic(auto, using(crate::proofs::Light::light_at))]
-fn add_table<'r, N: Naming>(
-    rt: &impl Wait,
-    alloc: Global,
-    units: &mut Units<'r, N>,
-    pushes: &mut Pushes,
-    number: u64,
-) -> Result<(), Fail>
-    requires light { AreLight pushes.old.count units.old }
-    ensures light { AreLight pushes.new.count units.new }
-    ensures counted { pushes.old.count ≤ pushes.new.count }
-{
-    let at = UnitRow::Expiry.index();
-    if units.row(at).len() == 64 || pushes.count() == pushes.limit() {
-        return Err(Fail::new("no room for a table"));
+impl<'r, N: Naming> Tried for Manifest<'r, Global, N> {
+    type Job = Job<'r, Global, N>;
+
+    type Merged = Merged<'r, Global, N>;
+
+    fn grow<R: Wait>(&mut self, rt: &R, alloc: Global, number: u64) -> Result<(), Fail> {
+        let at = UnitRow::Expiry.index();
+        let pushes = &mut self.pushes;
+        grow_at(rt, alloc, &mut self.units, at, pushes, number, ())
     }
-    let body = table_of(alloc, number, units.row(at).is_empty())?;
-    let Ok(table) = units.push(rt, pushes, body) else {
-        return Err(Fail::new("no memory for a push"));
-    };
-    units.add(at, table);
-    Ok(())
-}
 
-/// Adds a table with the key of this number to the row expiry.
-fn grow<'r, N: Naming>(
-    rt: &impl Wait,
-    alloc: Global,
-    manifest: &mut Manifest<'r, Global, N>,
-    number: u64,
-) -> Result<(), Fail> {
-    add_table(rt, alloc, &mut manifest.units, &mut manifest.pushes, number)
-}
-
-/// A manifest whose row expiry has five tables of one key each, those of the numbers 0 to 4.
-fn five_tables<'r, N: Naming>(
-    rt: &impl Wait,
-    alloc: Global,
-    registries: &'r Registries<Global>,
-) -> Result<Manifest<'r, Global, N>, Fail>
-    requires { AreShelves N.shelf registries.now }
-{
-    let mut manifest = Manifest::new(registries);
-    for number in 0..5 {
-        grow(rt, alloc, &mut manifest, number)?;
+    fn job(&self) -> Option<Job<'r, Global, N>> {
+        self.pick(Row::Expiry)
     }
-    Ok(manifest)
-}
 
-/// The run of the row expiry that is to be merged next, merged.
-fn merged<'r, N: Naming>(
-    alloc: Global,
-    manifest: &Manifest<'r, Global, N>,
-) -> Result<Merged<'r, Global, N>, Fail> {
-    let job = manifest.pick(Row::Expiry).ok_or("no job")?;
-    Ok(job.merge(alloc)?)
-}
+    fn merge(job: &Job<'r, Global, N>, alloc: Global) -> Option<Merged<'r, Global, N>> {
+        job.merge(alloc).ok()
+    }
 
-/// Installs a merged table, and tells what became of it.
-fn install<'r, N: Naming>(
-    rt: &impl Wait,
-    manifest: &mut Manifest<'r, Global, N>,
-    out: Merged<'r, Global, N>,
-) -> Outcome {
-    match manifest.install(rt, out) {
-        Ok(()) => Outcome::Installed,
-        Err(Uninstalled::Stale) => Outcome::Stale,
-        Err(Uninstalled::RegistryFull) => Outcome::RegistryFull,
-        Err(Uninstalled::NoMemory(_)) => Outcome::NoMemory,
+    fn install<R: Wait>(&mut self, rt: &R, out: Merged<'r, Global, N>) -> Outcome {
+        outcome_of(Manifest::install(self, rt, out))
+    }
+
+    fn copy_from(&mut self, other: &Self) {
+        Manifest::copy_from(self, other);
+    }
+
+    fn is_seen(&self, tables: u32, keys: u64, pushed: u32) -> bool {
+        self.references(Row::Expiry) == tables
+            && all_tables(self) == tables
+            && self.pushed() == pushed
+            && has_keys(self, keys)
     }
 }
 
-/// The row expiry has so many tables, and exactly the keys of the numbers below `keys`. So many tables were pushed.
-fn assert_expiry<N: Naming>(
-    rt: &impl Abort,
-    manifest: &Manifest<'_, Global, N>,
-    tables: u32,
-    keys: u64,
-    pushed: u32,
-) {
-    assert_eq!(rt; manifest.references(Row::Expiry), tables);
-    assert_eq!(rt; manifest.pushed(), pushed);
+/// How many tables all rows have.
+fn all_tables<N: Naming>(manifest: &Manifest<'_, Global, N>) -> u32 {
+    let mut tables = 0u32;
+    for row in Row::ALL {
+        tables = tables.saturating_add(manifest.references(row));
+    }
+    tables
+}
+
+/// Whether the row expiry has exactly the keys of the numbers below `keys`, each found, and the first above the one before.
+fn has_keys<N: Naming>(manifest: &Manifest<'_, Global, N>, keys: u64) -> bool {
     let mut below = Key::LEAST;
     for number in 0..keys {
         let here = key(number);
-        assert!(rt;
-            manifest.find(Row::Expiry, &here) == Some(Value::Unit),
-            "{number}"
-        );
-        assert!(rt;
-            manifest.first_above(Row::Expiry, &below) == Some(here),
-            "{number}"
-        );
+        if !has_next(manifest, &below, &here) {
+            return false;
+        }
         below = here;
     }
-    assert!(rt; manifest.find(Row::Expiry, &key(keys)).is_none());
-    assert!(rt; manifest.first_above(Row::Expiry, &below).is_none());
+    let end = key(keys);
+    manifest.find(Row::Expiry, &end).is_none()
+        && manifest.first_above(Row::Expiry, &below).is_none()
 }
 
-/// No row but expiry has a table.
-fn assert_others_are_empty<N: Naming>(rt: &impl Abort, manifest: &Manifest<'_, Global, N>) {
-    for row in Row::ALL {
-        if row != Row::Expiry {
-            assert_eq!(rt; manifest.references(row), 0);
+/// Whether the row expiry has a key, and it is the first above the other.
+fn has_next<N: Naming>(manifest: &Manifest<'_, Global, N>, below: &Key, here: &Key) -> bool {
+    matches!(manifest.find(Row::Expiry, here), Some(Value::Unit))
+        && manifest.first_above(Row::Expiry, below) == Some(*here)
+}
+
+/// Adds a table for each of these numbers.
+fn grow_to<T: Tried, R: Wait>(
+    rt: &R,
+    alloc: Global,
+    rows: &mut T,
+    first: u64,
+    end: u64,
+) -> Result<(), Fail> {
+    for number in first..end {
+        rows.grow(rt, alloc, number)?;
+    }
+    Ok(())
+}
+
+/// The run of the row that is to be merged next, merged, if there is one and memory for it.
+fn merged<T: Tried>(alloc: Global, rows: &T) -> Option<T::Merged> {
+    let job = rows.job()?;
+    T::merge(&job, alloc)
+}
+
+/// Installs a merged table, if there is one, which has this outcome.
+fn assert_installs<T: Tried, R: Abort + Wait>(
+    rt: &R,
+    rows: &mut T,
+    out: Option<T::Merged>,
+    outcome: Outcome,
+) {
+    match out {
+        Some(out) => {
+            let done = rows.install(rt, out);
+            assert!(rt; done == outcome);
         }
+        None => panic!(rt; "nothing was merged"),
     }
 }
 
 /// A job of two tables leaves four, in a copy none fewer, and makes a second job of theirs stale.
-fn installed_once<N: Naming>(
-    rt: &(impl Abort + Wait),
-    alloc: Global,
-    registries: &Registries<Global>,
-) -> Result<(), Fail>
-    requires { AreShelves N.shelf registries.now }
-{
-    let mut manifest = five_tables::<N>(rt, alloc, registries)?;
-    let copy = manifest.again();
-    let first = merged(alloc, &manifest)?;
-    let second = merged(alloc, &manifest)?;
-    assert_eq!(rt; install(rt, &mut manifest, first), Outcome::Installed);
-    assert_expiry(rt, &manifest, 4, 5, 6);
-    assert_eq!(rt; install(rt, &mut manifest, second), Outcome::Stale);
-    assert_expiry(rt, &manifest, 4, 5, 6);
-    assert!(rt; manifest.pick(Row::Expiry).is_none());
-    assert_others_are_empty(rt, &manifest);
-    assert_expiry(rt, &copy, 5, 5, 5);
-    Ok(())
+fn installed_once<T: Tried, R: Abort + Wait>(rt: &R, alloc: Global, rows: &mut T, copy: &mut T) {
+    copy.copy_from(rows);
+    let late = merged(alloc, rows);
+    let first = merged(alloc, rows);
+    assert_installs(rt, rows, first, Outcome::Installed);
+    assert!(rt; rows.is_seen(4, 5, 6));
+    assert_installs(rt, rows, late, Outcome::Stale);
+    assert!(rt; rows.is_seen(4, 5, 6));
+    assert!(rt; rows.job().is_none());
+    assert!(rt; copy.is_seen(5, 5, 5));
 }
 
-/// Five tables and more, up to the limit of the registries, leave no push for an install, and stay.
-fn refused_at_the_limit<N: Naming>(
-    rt: &(impl Abort + Wait),
+/// Five tables and more, up to the limit, leave no push for an install, and stay.
+fn refused_at_the_limit<T: Tried, R: Abort + Wait>(
+    rt: &R,
     alloc: Global,
-    registries: &Registries<Global>,
-) -> Result<(), Fail>
-    requires { AreShelves N.shelf registries.now }
-{
-    let mut manifest = five_tables::<N>(rt, alloc, registries)?;
-    assert_eq!(rt; manifest.limit(), 7);
-    let out = merged(alloc, &manifest)?;
-    grow(rt, alloc, &mut manifest, 5)?;
-    grow(rt, alloc, &mut manifest, 6)?;
-    assert_eq!(rt; install(rt, &mut manifest, out), Outcome::RegistryFull);
-    assert_expiry(rt, &manifest, 7, 7, 7);
-    Ok(())
+    rows: &mut T,
+) -> Result<(), Fail> {
+    let late = merged(alloc, rows);
+    let grown = grow_to(rt, alloc, rows, 5, 7);
+    assert_installs(rt, rows, late, Outcome::RegistryFull);
+    assert!(rt; rows.is_seen(7, 7, 7));
+    grown
+}
+
+/// A merge of a row that has gained a table is installed.
+fn installed_later<T: Tried, R: Abort + Wait>(rt: &R, rows: &mut T, out: Option<T::Merged>) {
+    assert!(rt; rows.is_seen(6, 6, 6));
+    assert_installs(rt, rows, out, Outcome::Installed);
+    assert!(rt; rows.is_seen(5, 6, 7));
 }
 
 /// A job is merged in another thread while its row gains a table, and installed then.
 fn merged_beside<N: Naming + Send + Sync>(
     rt: &(impl Abort + Wait + Threads + Sync),
     alloc: Global,
-    registries: &Registries<Global>,
-) -> Result<(), Fail>
-    requires { AreShelves N.shelf registries.now }
-{
-    let mut manifest = five_tables::<N>(rt, alloc, registries)?;
+    manifest: &mut Manifest<'_, Global, N>,
+) -> Result<(), Fail> {
     let job = manifest.pick(Row::Expiry).ok_or("no job")?;
     let (out, grown) = thread::join(
         rt,
-        move || job.merge(alloc),
-        || grow(rt, alloc, &mut manifest, 5),
+        move || job.merge(alloc).ok(),
+        || manifest.grow(rt, alloc, 5),
     );
-    grown?;
-    assert_expiry(rt, &manifest, 6, 6, 6);
-    assert_eq!(rt; install(rt, &mut manifest, out?), Outcome::Installed);
-    assert_expiry(rt, &manifest, 5, 6, 7);
-    Ok(())
+    installed_later(rt, manifest, out);
+    grown
 }
 
+/// What is tried with five tables of one key each, those of the numbers 0 to 4.
+#[derive(Clone, Copy)]
+enum Trial {
+    InstalledOnce,
+    RefusedAtTheLimit,
+    MergedBeside,
+}
+
+fn try_one<'r, N: Naming + Send + Sync>(
+    rt: &(impl Abort + Wait + Threads + Sync),
+    alloc: Global,
+    manifest: &mut Manifest<'r, Global, N>,
+    copy: &mut Manifest<'r, Global, N>,
+    trial: Trial,
+) -> Result<(), Fail> {
+    grow_to(rt, alloc, manifest, 0, 5)?;
+    match trial {
+        Trial::InstalledOnce => {
+            installed_once(rt, alloc, manifest, copy);
+            Ok(())
+        }
+        Trial::RefusedAtTheLimit => refused_at_the_limit(rt, alloc, manifest),
+        Trial::MergedBeside => merged_beside(rt, alloc, manifest),
+    }
+}
+
+/// Tries something with a manifest of its own, and one to copy it into.
+fn with_manifest<N: Naming + Send + Sync>(
+    rt: &(impl Abort + Wait + Threads + Sync),
+    alloc: Global,
+    registries: &Registries<Global>,
+    trial: Trial,
+) -> Result<(), Fail>
+    requires { AreShelves N.shelf registries.now }
+{
+    let mut manifest = Manifest::<'_, Global, N>::new(registries);
+    assert!(rt; manifest.limit() == 7);
+    let mut copy = manifest.again();
+    let tried = try_one(rt, alloc, &mut manifest, &mut copy, trial);
+    drop(copy);
+    drop(manifest);
+    tried
+}
+
+/// Tries each with a manifest of its own, over the same registries.
 fn in_turn<N: Naming + Send + Sync>(
     rt: &(impl Abort + Wait + Threads + Sync),
     alloc: Global,
@@ -209,12 +241,11 @@ fn in_turn<N: Naming + Send + Sync>(
 ) -> Result<(), Fail>
     requires { AreShelves N.shelf registries.now }
 {
-    installed_once::<N>(rt, alloc, registries)?;
-    refused_at_the_limit::<N>(rt, alloc, registries)?;
-    merged_beside::<N>(rt, alloc, registries)
+    with_manifest::<N>(rt, alloc, registries, Trial::InstalledOnce)?;
+    with_manifest::<N>(rt, alloc, registries, Trial::RefusedAtTheLimit)?;
+    with_manifest::<N>(rt, alloc, registries, Trial::MergedBeside)
 }
 
-/// Each part has a manifest of its own, over the same registries.
 #[test]
 fn a_job_of_a_manifest_is_installed_once_under_its_limit_whatever_was_pushed(
     rt: HostRuntime,

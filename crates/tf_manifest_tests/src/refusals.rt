@@ -1,13 +1,16 @@
 //! Requests for memory that are refused, each in turn.
-ghost use Rattle.std.specs.Prelude.{◌≡◌};
+ghost use Rattle.std.specs.Prelude.{◌≡◌, ◌<◌, length};
+ghost use Rattle.tf_manifest.specs.Row.{weight};
 
-use crate::fixture::{TreeRow, assert_row, grow, key, merged};
+use crate::fixture::{Outcome, assert_installs, assert_row, grow_to, key, merged, table};
 use linked_list_allocator::LocalHeap;
 use std::marker::Brand;
 use std::process::Abort;
 use std::sync::Wait;
 use std::test::Fail;
-use tf_manifest::{KindRows, Naming, Pushes, Registry, RowMerged, RowUninstalled, WholeRow};
+use tf_manifest::{
+    Body, KindRows, Naming, Pushes, Registry, RowJob, RowMerged, RowUninstalled, Tables,
+};
 use tf_records::Refusal;
 
 /// Bytes of a heap on which everything has room.
@@ -16,11 +19,12 @@ const AMPLE: usize = 1 << 16;
 /// Tables for which a registry makes room first. The push of one more asks for memory twice.
 const TABLES: u64 = 32;
 
+/// A row of numbers on a heap.
+type Numbers<'r, 'h, N> = Tables<'r, u64, &'h LocalHeap, N>;
+
 /// A call that takes memory.
 #[derive(Clone, Copy, Debug)]
 enum Call {
-    Put,
-    Seal,
     Merge,
     Push,
     Install,
@@ -29,12 +33,9 @@ enum Call {
 impl Call {
     /// Bytes that none of its requests is below, and bytes that they aren't below together.
     fn requests(self) -> (usize, usize) {
-        // A key takes 32 bytes, an entry 16, and the filter of so few keys a block of 16.
-        let sealed = 2 * (32 + 16) + 16;
         match self {
-            // Two nodes, with room for 32 rows each.
-            Call::Put => (1024, 2 * 32 * (32 + 16)),
-            Call::Seal | Call::Merge => (16, sealed),
+            // A key takes 32 bytes, an entry 16, and the filter of so few keys a block of 16.
+            Call::Merge => (16, 2 * (32 + 16) + 16),
             // Places for 64 numbers, and for 64 tables.
             Call::Push | Call::Install => (1024, 64 * (16 + 128)),
         }
@@ -47,98 +48,102 @@ fn all_but(heap: &LocalHeap, room: usize) -> Result<Vec<u8, &LocalHeap>, Fail> {
     Ok(Vec::with_capacity(heap, left)?)
 }
 
-/// A row of tables of one row each, whose keys and values are the numbers below `TABLES`. The registry, which is on the
-/// heap, has no room for more.
-fn full_bucket<'r, 'h, N: Naming>(
+/// Gives a row `TABLES` tables of one row each, whose keys and values are the numbers. The registry, which is on the heap,
+/// has no room for more then.
+fn fill<'r, 'h, N: Naming>(
     rt: &impl Wait,
     registry: &'r Registry<u64, &'h LocalHeap>,
+    row: &mut Numbers<'r, 'h, N>,
     heap: &'h LocalHeap,
     store: &'h LocalHeap,
-) -> Result<TreeRow<'r, &'h LocalHeap, N>, Fail>
+) -> Result<(), Fail>
     requires here { registry.now ≡ N.shelf 0 }
+    requires length { length row.old ≡ 0 }
+    requires weight { weight row.old ≡ 0 }
 {
-    let mut row = WholeRow::new(store, registry);
-    let mut taken = Vec::new(heap);
-    for value in 0..TABLES {
-        // Some pushes before the room is used up, a push tries to make more.
-        if value == 20 {
-            taken = all_but(heap, 0)?;
-        }
-        grow(rt, store, registry, &mut row, value)?;
-    }
+    // Some pushes before the room is used up, a push tries to make more.
+    grow_to(rt, store, registry, row, 0, 20)?;
+    let taken = all_but(heap, 0)?;
+    let filled = grow_to(rt, store, registry, row, 20, TABLES);
     drop(taken);
-    Ok(row)
-}
-
-/// Puts a row more into a mutable table of as many rows as one node has. It tells whether that was refused at first.
-fn put_again<'h, N: Naming>(
-    rt: &impl Abort,
-    registry: &Registry<u64, &'h LocalHeap>,
-    heap: &'h LocalHeap,
-    room: usize,
-) -> Result<bool, Fail>
-    requires here { registry.now ≡ N.shelf 0 }
-{
-    let mut row: TreeRow<'_, &LocalHeap, N> = WholeRow::new(heap, registry);
-    for value in 0..32 {
-        let _ = row.put(key(value), Some(value))?;
-    }
-    let taken = all_but(heap, room)?;
-    let Err(refusal) = row.put(key(32), Some(32)) else {
-        return Ok(false);
-    };
-    assert_eq!(rt; refusal, Refusal::NoMemory);
-    assert_row(rt, &row, 0, 32);
-    drop(taken);
-    let _ = row.put(key(32), Some(32))?;
-    assert_row(rt, &row, 0, 33);
-    Ok(true)
-}
-
-/// Seals the mutable table of a row. It tells whether that was refused at first.
-fn seal_again<'h, N: Naming>(
-    rt: &impl Abort,
-    row: &mut TreeRow<'_, &'h LocalHeap, N>,
-    heap: &'h LocalHeap,
-    room: usize,
-) -> Result<bool, Fail> {
-    let taken = all_but(heap, room)?;
-    let Err(refusal) = row.seal(heap) else {
-        return Ok(false);
-    };
-    assert_eq!(rt; refusal, Refusal::NoMemory);
-    assert_row(rt, row, 32, 34);
-    drop(taken);
-    assert_eq!(rt; row.seal(heap)?.table().len(), 2);
-    assert_row(rt, row, 32, 34);
-    Ok(true)
+    filled
 }
 
 /// Merges the run of a row. It tells whether that was refused at first.
 fn merge_again<'h, N: Naming>(
     rt: &impl Abort,
-    row: &TreeRow<'_, &'h LocalHeap, N>,
+    row: &Numbers<'_, 'h, N>,
     heap: &'h LocalHeap,
     room: usize,
 ) -> Result<bool, Fail> {
-    let job = row.tables().pick().ok_or("no job")?;
+    let job = row.pick().ok_or("no job")?;
     let taken = all_but(heap, room)?;
-    let Err(refusal) = job.merge(heap) else {
-        return Ok(false);
-    };
-    assert_eq!(rt; refusal, Refusal::NoMemory);
-    assert_row(rt, row, 32, 34);
-    drop(taken);
-    let (_, body) = job.merge(heap)?.into_parts();
-    assert_eq!(rt; (body.table().len(), body.level()), (2, 1));
-    Ok(true)
+    match job.merge(heap) {
+        Ok(_) => Ok(false),
+        Err(refusal) => {
+            assert!(rt; refusal == Refusal::NoMemory);
+            assert_row(rt, row, 32, 32);
+            drop(taken);
+            assert_merges(rt, &job, heap);
+            Ok(true)
+        }
+    }
 }
 
-/// Pushes the mutable table of a row, sealed. It tells whether the table was handed back at first.
+/// A job of two tables of one row each is merged.
+fn assert_merges<'h, N: Naming>(
+    rt: &impl Abort,
+    job: &RowJob<'_, u64, &'h LocalHeap, N>,
+    heap: &'h LocalHeap,
+) {
+    match job.merge(heap) {
+        Ok(merged) => assert!(rt; merged.entries() == 2),
+        Err(_) => panic!(rt; "no memory for a merge"),
+    }
+}
+
+/// Pushes a table. It tells whether the table was handed back at first.
 fn push_again<'h, N: Naming>(
     rt: &(impl Abort + Wait),
+    rows: &KindRows<'_, u64, &'h LocalHeap, N, 1>,
+    heap: &'h LocalHeap,
+    store: &'h LocalHeap,
+    room: usize,
+) -> Result<bool, Fail> {
+    let taken = all_but(heap, room)?;
+    let body = table(store, 32, Some(32), false)?;
+    let mut pushes = Pushes::new(1);
+    match rows.push(rt, &mut pushes, body) {
+        Ok(_) => Ok(false),
+        Err(back) => {
+            assert!(rt; pushes.count() == 0);
+            drop(taken);
+            assert_pushes(rt, rows, &mut pushes, back);
+            Ok(true)
+        }
+    }
+}
+
+/// A table of the number 32 is pushed behind 32 others.
+fn assert_pushes<'h, N: Naming>(
+    rt: &(impl Abort + Wait),
+    rows: &KindRows<'_, u64, &'h LocalHeap, N, 1>,
+    pushes: &mut Pushes,
+    body: Body<u64, &'h LocalHeap>,
+)
+    requires { pushes.old.count < pushes.old.limit }
+{
+    assert!(rt; matches!(body.table().find(&key(32)), Some(Some(32))));
+    match rows.push(rt, pushes, body) {
+        Ok(pushed) => assert!(rt; pushed.number() == 33 && pushes.count() == 1),
+        Err(_) => panic!(rt; "no memory for a push"),
+    }
+}
+
+/// Makes rows, and pushes a table for them.
+fn push_for_rows<'h, N: Naming>(
+    rt: &(impl Abort + Wait),
     registry: &Registry<u64, &'h LocalHeap>,
-    row: &mut TreeRow<'_, &'h LocalHeap, N>,
     heap: &'h LocalHeap,
     store: &'h LocalHeap,
     room: usize,
@@ -146,52 +151,86 @@ fn push_again<'h, N: Naming>(
     requires here { registry.now ≡ N.shelf 0 }
 {
     let rows = KindRows::<u64, &LocalHeap, N, 1>::new(registry);
-    let mut pushes = Pushes::new(1);
-    let body = row.seal(store)?;
-    let taken = all_but(heap, room)?;
-    let Err(body) = rows.push(rt, &mut pushes, body) else {
-        return Ok(false);
-    };
-    assert_eq!(rt; pushes.count(), 0);
-    assert_eq!(rt; body.table().find(&key(32)), Some(Some(&32)));
-    drop(taken);
-    let Ok(pushed) = rows.push(rt, &mut pushes, body) else {
-        return Err(Fail::new("no memory for a push"));
-    };
-    assert_eq!(rt; (pushes.count(), pushed.number()), (1, 33));
-    Ok(true)
+    let tried = push_again(rt, &rows, heap, store, room);
+    drop(rows);
+    tried
 }
 
-/// Installs a merged table in a row. It tells whether the table was handed back at first.
+/// Merges the run of a row and installs it. It tells whether the merged table was handed back at first.
 fn install_again<'r, 'h, N: Naming>(
     rt: &(impl Abort + Wait),
     registry: &'r Registry<u64, &'h LocalHeap>,
-    row: &mut TreeRow<'r, &'h LocalHeap, N>,
-    out: RowMerged<'r, u64, &'h LocalHeap, N>,
+    row: &mut Numbers<'r, 'h, N>,
     heap: &'h LocalHeap,
+    store: &'h LocalHeap,
     room: usize,
 ) -> Result<bool, Fail>
     requires here { registry.now ≡ N.shelf 0 }
 {
-    let mut pushes = Pushes::new(1);
     let taken = all_but(heap, room)?;
-    let Err(refused) = row.install(rt, registry, &mut pushes, out) else {
-        return Ok(false);
-    };
-    let RowUninstalled::NoMemory(out) = refused else {
-        return Err(Fail::new("the install wasn't refused for want of memory"));
-    };
-    assert_eq!(rt; pushes.count(), 0);
-    assert_row(rt, row, 32, 34);
-    drop(taken);
-    assert!(rt; row.install(rt, registry, &mut pushes, out).is_ok());
-    assert_eq!(rt; pushes.count(), 1);
-    assert_row(rt, row, 31, 34);
-    Ok(true)
+    match merged(store, row) {
+        Some(out) => Ok(is_handed_back(rt, registry, row, out, taken)),
+        None => Err(Fail::new("no merge")),
+    }
 }
 
-/// Makes a call in a row of tables with a mutable table of one row. It tells whether it was refused at first.
-fn call_again<'h, N: Naming>(
+/// Whether a merged table is handed back for want of memory. If it is, it is installed where less is taken.
+fn is_handed_back<'r, 'h, N: Naming>(
+    rt: &(impl Abort + Wait),
+    registry: &'r Registry<u64, &'h LocalHeap>,
+    row: &mut Numbers<'r, 'h, N>,
+    out: RowMerged<'r, u64, &'h LocalHeap, N>,
+    taken: Vec<u8, &'h LocalHeap>,
+) -> bool
+    requires here { registry.now ≡ N.shelf 0 }
+{
+    let mut pushes = Pushes::new(1);
+    match row.install(rt, registry, &mut pushes, out) {
+        Ok(()) => false,
+        Err(RowUninstalled::NoMemory(back)) => {
+            assert!(rt; pushes.count() == 0);
+            assert_row(rt, row, 32, 32);
+            drop(taken);
+            assert_installs(
+                rt,
+                registry,
+                row,
+                &mut pushes,
+                Some(back),
+                Outcome::Installed,
+            );
+            assert!(rt; pushes.count() == 1);
+            assert_row(rt, row, 31, 32);
+            true
+        }
+        Err(_) => panic!(rt; "the install wasn't refused for want of memory"),
+    }
+}
+
+/// Makes a call in a row, which it fills first. It tells whether the call was refused at first.
+fn call_in<'r, 'h, N: Naming>(
+    rt: &(impl Abort + Wait),
+    registry: &'r Registry<u64, &'h LocalHeap>,
+    row: &mut Numbers<'r, 'h, N>,
+    heap: &'h LocalHeap,
+    store: &'h LocalHeap,
+    call: Call,
+    room: usize,
+) -> Result<bool, Fail>
+    requires here { registry.now ≡ N.shelf 0 }
+    requires length { length row.old ≡ 0 }
+    requires weight { weight row.old ≡ 0 }
+{
+    fill(rt, registry, row, heap, store)?;
+    match call {
+        Call::Merge => merge_again(rt, row, heap, room),
+        Call::Push => push_for_rows::<N>(rt, registry, heap, store, room),
+        Call::Install => install_again(rt, registry, row, heap, store, room),
+    }
+}
+
+/// Makes a call in a row of its own.
+fn with_row<'h, N: Naming>(
     rt: &(impl Abort + Wait),
     registry: &Registry<u64, &'h LocalHeap>,
     heap: &'h LocalHeap,
@@ -201,19 +240,24 @@ fn call_again<'h, N: Naming>(
 ) -> Result<bool, Fail>
     requires here { registry.now ≡ N.shelf 0 }
 {
-    let mut row = full_bucket::<N>(rt, registry, heap, store)?;
-    let _ = row.put(key(32), Some(32))?;
-    let _ = row.put(key(33), Some(33))?;
-    match call {
-        Call::Put => put_again::<N>(rt, registry, heap, room),
-        Call::Seal => seal_again(rt, &mut row, heap, room),
-        Call::Merge => merge_again(rt, &row, heap, room),
-        Call::Push => push_again(rt, registry, &mut row, heap, store, room),
-        Call::Install => {
-            let out = merged(store, &row).ok_or("no merge")?;
-            install_again(rt, registry, &mut row, out, heap, room)
-        }
-    }
+    let mut row = Tables::<u64, &LocalHeap, N>::new(registry);
+    let tried = call_in(rt, registry, &mut row, heap, store, call, room);
+    drop(row);
+    tried
+}
+
+/// Makes a call with a registry of its own.
+fn with_registry(
+    rt: &(impl Abort + Wait),
+    heap: &LocalHeap,
+    store: &LocalHeap,
+    call: Call,
+    room: usize,
+) -> Result<bool, Fail> {
+    let registry = Registry::new(heap)?;
+    let tried = with_row::<Brand>(rt, &registry, heap, store, call, room);
+    drop(registry);
+    tried
 }
 
 /// Makes a call with so much room on its heap, and if it is refused again with all of it. It tells whether it was refused.
@@ -224,10 +268,7 @@ fn is_refused(
 ) -> Result<bool, Fail> {
     let heap = LocalHeap::new(rt.alloc(), AMPLE)?;
     let store = LocalHeap::new(rt.alloc(), AMPLE)?;
-    let registry = Registry::new(&heap)?;
-    let tried = call_again::<Brand>(rt, &registry, &heap, &store, call, room);
-    drop(registry);
-    tried
+    with_registry(rt, &heap, &store, call, room)
 }
 
 /// The least room with which a call succeeds, after a refusal with each smaller one.
@@ -242,30 +283,32 @@ fn least_room(rt: &(impl Abort + Wait + AllocGlobal), call: Call) -> Result<usiz
     Err(Fail::new("the call never succeeds"))
 }
 
+/// Tries a call with ever more room.
+fn leaves_all_as_it_was(rt: &(impl Abort + Wait + AllocGlobal), call: Call) -> Result<(), Fail> {
+    let least = least_room(rt, call)?;
+    let (_, bytes) = call.requests();
+    assert!(rt; bytes <= least, "{call:?} takes {least} bytes");
+    Ok(())
+}
+
 #[test]
 fn each_refused_request_leaves_all_as_it_was(rt: HostRuntime) -> Result<(), Fail> {
-    for call in [
-        Call::Put,
-        Call::Seal,
-        Call::Merge,
-        Call::Push,
-        Call::Install,
-    ] {
-        let least = least_room(&rt, call)?;
-        let (_, bytes) = call.requests();
-        assert!(rt; bytes <= least, "{call:?} takes {least} bytes");
-    }
-    Ok(())
+    leaves_all_as_it_was(&rt, Call::Merge)?;
+    leaves_all_as_it_was(&rt, Call::Push)?;
+    leaves_all_as_it_was(&rt, Call::Install)
 }
 
 /// Whether there is memory for a registry on a heap of this size.
 fn has_registry(rt: &(impl Abort + AllocGlobal), size: usize) -> Result<bool, Fail> {
     let heap = LocalHeap::new(rt.alloc(), size)?;
     match Registry::<u64, _>::new(&heap) {
-        Ok(_) => Ok(true),
+        Ok(registry) => {
+            drop(registry);
+            Ok(true)
+        }
         Err(refusal) => {
-            assert_eq!(rt; refusal, Refusal::NoMemory);
-            assert_eq!(rt; heap.used(), 0);
+            assert!(rt; refusal == Refusal::NoMemory);
+            assert!(rt; heap.used() == 0);
             Ok(false)
         }
     }
