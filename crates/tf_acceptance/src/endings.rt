@@ -1,5 +1,6 @@
 //! How runs end: the line and the status of each ending, a writer that fails, want of memory.
 
+use crate::asserts::assert_at;
 use linked_list_allocator::LocalHeap;
 use std::io;
 use std::io::Write;
@@ -55,8 +56,8 @@ impl Write for Narrow {
 /// The line and the status that are reported of an ending.
 fn assert_reported(rt: &(impl Abort + AllocGlobal), ending: &Ending, line: &str, status: u8) {
     let mut written = Vec::new(rt.alloc());
-    assert_eq!(rt; report(ending, &mut written), status);
-    assert!(rt; written.as_slice() == line.as_bytes(), "{line}");
+    assert!(rt; report(ending, &mut written) == status);
+    assert!(rt; written.as_slice() == line.as_bytes());
 }
 
 #[test]
@@ -100,27 +101,35 @@ fn report_keeps_to_the_line_where_the_writer_fails(rt: HostRuntime) {
             taken: Vec::new(rt.alloc()),
             room,
         };
-        assert_eq!(rt; report(&fault, &mut err), 1);
+        assert!(rt; report(&fault, &mut err) == 1);
         assert!(rt; err.taken.as_slice() == &line[..room]);
+    }
+}
+
+/// A run whose writer has room for so many bytes, fewer than the answer has, ends where the writer fails.
+fn assert_cut_off(rt: &(impl Abort + AllocGlobal), room: usize) {
+    let mut out = Narrow {
+        taken: Vec::new(rt.alloc()),
+        room,
+    };
+    let outcome = run_script_plainly(rt.alloc(), SCRIPT.as_bytes(), &mut out);
+    assert_at(rt, is_full(&outcome), "room", room as u64);
+    let begun = ANSWER.as_bytes().starts_with(out.taken.as_slice());
+    assert!(rt; begun && out.taken.len() == room);
+}
+
+/// Whether a run ended since its writer had no room.
+fn is_full(outcome: &Result<(), RunFault>) -> bool {
+    match outcome {
+        Err(RunFault::CannotWrite(error)) => error.kind() == io::ErrorKind::StorageFull,
+        Ok(()) | Err(_) => false,
     }
 }
 
 #[test]
 fn writer_that_fails_ends_the_run(rt: HostRuntime) {
     for room in 0..ANSWER.len() {
-        let mut out = Narrow {
-            taken: Vec::new(rt.alloc()),
-            room,
-        };
-        match run_script_plainly(rt.alloc(), SCRIPT.as_bytes(), &mut out) {
-            Err(RunFault::CannotWrite(error)) => {
-                assert!(rt; error.kind() == io::ErrorKind::StorageFull);
-                let ending = Ending::Fault(RunFault::CannotWrite(error));
-                assert_reported(&rt, &ending, "cannot write\n", 1);
-            }
-            Ok(()) | Err(_) => assert!(rt; false, "room for {room}"),
-        }
-        assert!(rt; out.taken.as_slice() == &ANSWER.as_bytes()[..room]);
+        assert_cut_off(&rt, room);
     }
     let mut out = Narrow {
         taken: Vec::new(rt.alloc()),
@@ -168,7 +177,7 @@ fn nothing_is_written_after_a_failure(rt: HostRuntime) {
             has_failed: false,
         };
         let outcome = run_script_plainly(rt.alloc(), SCRIPT.as_bytes(), &mut out);
-        assert!(rt; outcome.is_err(), "room for {room}");
+        assert_at(&rt, outcome.is_err(), "room", room as u64);
         assert!(rt; out.taken.as_slice() == &ANSWER.as_bytes()[..room]);
     }
 }
@@ -280,7 +289,7 @@ fn want_of_memory_leaves_whole_answers_of_a_store(rt: HostRuntime) -> Result<(),
         let (whole, some) = assert_lines_whole(&rt, outcome, out.as_slice());
         answered |= whole;
         kept |= some;
-        assert_eq!(rt; heap.used(), 0);
+        assert!(rt; heap.used() == 0);
     }
     assert!(rt; answered && kept);
     Ok(())

@@ -13,12 +13,7 @@ ghost use Rattle.tf_manifest.specs.Registries.{AreShelves};
 
 use crate::memory::AMPLE;
 use crate::random;
-use crate::rows::Row;
-use crate::rows::batches::BATCHES;
-use crate::rows::clients::CLIENTS;
-use crate::rows::pending::PENDING;
-use crate::rows::queries::QUERIES;
-use crate::rows::recipes::RECIPES;
+use crate::worked::WORKED;
 use commands::assert_commands_alike;
 use linked_list_allocator::LocalHeap;
 use refusals::assert_refusals_change_nothing;
@@ -28,16 +23,18 @@ use std::process::Abort;
 use std::test::Fail;
 use tf_forest::Forest;
 use tf_journal::PlainLedger;
-use tf_manifest::{Naming, Registries};
+use tf_manifest::Registries;
 use tf_publish::Rows;
+use tf_records::Refusal;
+use tf_registry::Naming;
 use tf_rows::{AllRows, MutableRows, MutableTables};
 use tf_script::{Command, parse};
 
 /// The rows of a forest that lies on the global heap.
-pub type GlobalRows<'r, N> = Rows<'r, MutableTables<Global>, Global, N>;
+pub type GlobalRows<N> = Rows<MutableTables<Global>, Global, N>;
 
 /// The rows of a forest that lies on a heap of so many bytes.
-type HeapRows<'r, 'h, N> = Rows<'r, MutableTables<&'h LocalHeap>, &'h LocalHeap, N>;
+type HeapRows<'h, N> = Rows<MutableTables<&'h LocalHeap>, &'h LocalHeap, N>;
 
 /// A forest over these rows and an empty plain ledger answer commands alike.
 fn assert_forest_alike<S: AllRows + Drop>(
@@ -52,9 +49,9 @@ fn assert_forest_alike<S: AllRows + Drop>(
     assert_commands_alike(rt, &mut plain, &mut forest, commands);
 }
 
-fn assert_rows_alike<'r, T: MutableRows + Drop, A: Allocator + Copy, N: Naming>(
+fn assert_rows_alike<T: MutableRows + Drop, A: Allocator + Copy, N: Naming>(
     rt: &(impl Abort + AllocGlobal),
-    rows: Rows<'r, T, A, N>,
+    rows: Rows<T, A, N>,
     commands: &[Command<Global>],
 )
     requires { AreEmpty (parts_of (T.entries rows.fresh) rows.published.tables) }
@@ -67,24 +64,24 @@ fn assert_alike_from_nothing<N: Naming>(
     rt: &(impl Abort + AllocGlobal),
     registries: &Registries<Global>,
     commands: &[Command<Global>],
-)
+) -> Result<(), Refusal>
     requires { AreShelves N.shelf registries.now }
 {
-    let rows: GlobalRows<'_, N> = Rows::new(rt.alloc(), registries);
+    let rows: GlobalRows<N> = Rows::new(rt.alloc(), registries)?;
     assert_rows_alike(rt, rows, commands);
+    Ok(())
 }
 
-/// Both answer each of these scripts alike.
+/// Both answer each of the worked scripts alike.
 fn assert_scripts_alike<N: Naming>(
     rt: &(impl Abort + AllocGlobal),
     registries: &Registries<Global>,
-    rows: &[Row],
 ) -> Result<(), Fail>
     requires { AreShelves N.shelf registries.now }
 {
-    for row in rows {
-        let commands = parse(rt.alloc(), row.script.as_bytes())?;
-        assert_alike_from_nothing::<N>(rt, registries, commands.as_slice());
+    for script in &WORKED {
+        let commands = parse(rt.alloc(), script.as_bytes())?;
+        assert_alike_from_nothing::<N>(rt, registries, commands.as_slice())?;
     }
     Ok(())
 }
@@ -98,7 +95,7 @@ fn assert_random_alike<N: Naming>(
 {
     for seed in 0..100 {
         let commands = random::commands(rt.alloc(), seed, 20)?;
-        assert_alike_from_nothing::<N>(rt, registries, commands.as_slice());
+        assert_alike_from_nothing::<N>(rt, registries, commands.as_slice())?;
     }
     Ok(())
 }
@@ -110,11 +107,7 @@ fn assert_all_alike<N: Naming>(
 ) -> Result<(), Fail>
     requires { AreShelves N.shelf registries.now }
 {
-    assert_scripts_alike::<N>(rt, registries, &BATCHES)?;
-    assert_scripts_alike::<N>(rt, registries, &PENDING)?;
-    assert_scripts_alike::<N>(rt, registries, &QUERIES)?;
-    assert_scripts_alike::<N>(rt, registries, &CLIENTS)?;
-    assert_scripts_alike::<N>(rt, registries, &RECIPES)?;
+    assert_scripts_alike::<N>(rt, registries)?;
     assert_random_alike::<N>(rt, registries)
 }
 
@@ -138,10 +131,10 @@ fn assert_forest_refused<S: AllRows + Drop>(
     assert_refusals_change_nothing(rt, heap, &mut plain, &mut forest, commands)
 }
 
-fn assert_rows_refused<'r, T: MutableRows + Drop, A: Allocator + Copy, N: Naming>(
+fn assert_rows_refused<T: MutableRows + Drop, A: Allocator + Copy, N: Naming>(
     rt: &(impl Abort + AllocGlobal),
     heap: &LocalHeap,
-    rows: Rows<'r, T, A, N>,
+    rows: Rows<T, A, N>,
     commands: &[Command<Global>],
 ) -> Result<usize, Fail>
     requires { AreEmpty (parts_of (T.entries rows.fresh) rows.published.tables) }
@@ -159,7 +152,7 @@ fn assert_refused_from_nothing<'h, N: Naming>(
 ) -> Result<usize, Fail>
     requires { AreShelves N.shelf registries.now }
 {
-    let rows: HeapRows<'_, 'h, N> = Rows::new(heap, registries);
+    let rows: HeapRows<'h, N> = Rows::new(heap, registries)?;
     assert_rows_refused(rt, heap, rows, commands)
 }
 

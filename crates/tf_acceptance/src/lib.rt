@@ -5,7 +5,7 @@
 #[cfg(test)]
 mod answers;
 #[cfg(test)]
-mod bytes;
+mod asserts;
 #[cfg(test)]
 mod dice;
 #[cfg(test)]
@@ -17,10 +17,10 @@ mod memory;
 #[cfg(test)]
 mod random;
 #[cfg(test)]
-mod rows;
-#[cfg(test)]
 mod scripts;
 #[cfg(test)]
 mod sizes;
 #[cfg(test)]
 mod versions;
+#[cfg(test)]
+mod worked;

@@ -101,7 +101,7 @@ fn an_answer_has_at_most_8190_rows(rt: HostRuntime) -> Result<(), Fail> {
     let mut out = Vec::new(rt.alloc());
     run_script_plainly(rt.alloc(), script.as_bytes(), &mut out)?;
     // three clocks, and twice 8,190 rows with their count
-    assert_eq!(rt; line_count(out.as_slice()), 3 + 2 * 8191);
+    assert!(rt; line_count(out.as_slice()) == 3 + 2 * 8191);
     assert!(rt;
         out.as_slice()
             .ends_with("timestamp=1005\nrows 8190\n".as_bytes())

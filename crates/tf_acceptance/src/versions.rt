@@ -20,6 +20,7 @@ ghost use Rattle.tf_rows.specs.Parts.{parts_of};
 ghost use Rattle.tf_manifest.specs.Registries.{AreShelves};
 
 use crate::forest::GlobalRows;
+use crate::worked::WORKED;
 use counts::{assert_bounds_kept, assert_limit_holds};
 use journals::assert_journal_answered;
 use many::assert_many_answered;
@@ -35,8 +36,9 @@ use std::sync::Wait;
 use std::test::Fail;
 use std::thread::Threads;
 use tf_forest::Forest;
-use tf_manifest::{Naming, Pushes, Registries};
+use tf_manifest::Registries;
 use tf_publish::Rows;
+use tf_registry::{Naming, Pushes};
 use tf_rows::SealRows;
 
 /// What is tried of the versions of an empty forest.
@@ -66,7 +68,7 @@ impl Trial {
         match self {
             Trial::Stays | Trial::Many | Trial::Parts | Trial::Refusals => 1,
             Trial::Bounds | Trial::Limit(_) => 1,
-            Trial::Scripts => scripts::COUNT,
+            Trial::Scripts => WORKED.len(),
             Trial::Journals => 2000,
         }
     }
@@ -80,10 +82,10 @@ impl Trial {
     }
 }
 
-fn try_forest<'r, F, A, N>(
+fn try_forest<F, A, N>(
     rt: &(impl Abort + AllocGlobal + Wait + Threads + Sync),
     alloc: A,
-    forest: &mut Sealing<'r, F, A, N>,
+    forest: &mut Sealing<F, A, N>,
     trial: Trial,
     turn: usize,
 ) -> Result<(), Fail>
@@ -95,20 +97,20 @@ where
 {
     match trial {
         Trial::Stays => assert_version_stays(rt, alloc, forest),
-        Trial::Scripts => assert_script_answered(rt, forest, turn),
+        Trial::Scripts => assert_script_answered(rt, alloc, forest, turn),
         Trial::Journals => assert_journal_answered(rt, alloc, forest, turn as u64),
-        Trial::Many => assert_many_answered(rt, forest),
-        Trial::Parts => assert_parts_answered(rt, forest),
-        Trial::Refusals => assert_refused_in_turn(rt, forest),
+        Trial::Many => assert_many_answered(rt, alloc, forest),
+        Trial::Parts => assert_parts_answered(rt, alloc, forest),
+        Trial::Refusals => assert_refused_in_turn(rt, alloc, forest),
         Trial::Bounds => assert_bounds_kept(rt, alloc, forest),
         Trial::Limit(limit) => assert_limit_holds(rt, forest, limit),
     }
 }
 
-fn try_rows<'r, F, A, N>(
+fn try_rows<F, A, N>(
     rt: &(impl Abort + AllocGlobal + Wait + Threads + Sync),
     alloc: A,
-    rows: Rows<'r, F, A, N>,
+    rows: Rows<F, A, N>,
     trial: Trial,
     turn: usize,
 ) -> Result<(), Fail>
@@ -131,7 +133,7 @@ fn try_each<N: Naming + Send + Sync>(
     requires { AreShelves N.shelf registries.now }
 {
     for turn in 0..trial.turns() {
-        let rows: GlobalRows<'_, N> = Rows::new(rt.alloc(), registries);
+        let rows: GlobalRows<N> = Rows::new(rt.alloc(), registries)?;
         try_rows(rt, rt.alloc(), rows, trial, turn)?;
     }
     Ok(())

@@ -1,3 +1,4 @@
 pub mod Notes
 pub mod Noting
 pub mod Refused
+pub mod Idle

@@ -1,5 +1,5 @@
 -- Notes whose steps lie behind one another: one more, one less.
-use Rattle.std.proofs.Common.{◌≡◌, ◌+◌, ◌-◌, ◌<◌, ◌≤◌, ℕ, suc, List, [], ◌∷◌, ◌++◌, length, take, drop, refl, sym, ◌∙◌, ap, subst, arith}
+use Rattle.std.proofs.Common.{◌≡◌, ◌+◌, ◌-◌, ◌<◌, ◌≤◌, suc, List, [], ◌∷◌, ◌++◌, length, take, drop, refl, sym, ◌∙◌, ap, arith}
 use Rattle.std.proofs.lemmas.List.{drop-append-le, drop_at, length-append, length-drop, length-take-le, take-append-drop, take-append-le, take_all, take_at}
 use Rattle.std.specs.Prelude.{slice_index_or}
 use Rattle.tf_rows.specs.declared.change.Step.{Step}

@@ -4,7 +4,7 @@ use Rattle.tf_journal.specs.declared.entry.Entry.{Entry}
 use Rattle.tf_table.specs.declared.key.Key.{Key}
 use Rattle.tf_table.specs.Content.{entry_at}
 use Rattle.tf_manifest.specs.declared.row.Row.{Row}
-use Rattle.tf_manifest.specs.Limit.{Pushed}
+use Rattle.tf_registry.specs.Limit.{Pushed}
 use Rattle.tf_manifest.specs.Shows.{Shows}
 use Rattle.tf_manifest.specs.View.{ShowsJournal, View as Tables}
 use Rattle.tf_rows.specs.Counts.{Loses, Sealed}

@@ -1,5 +1,5 @@
 //! Publishing a forest.
-ghost use Rattle.std.specs.Prelude.{◌≡◌, ◌≢◌, ◌+◌, ◌<◌, ◌≤◌, ◌==◌, length, Err, OnErr, OnOk, IfOk, IfErr, IsOk, if◌then◌else◌};
+ghost use Rattle.std.specs.Prelude.{◌≡◌, ◌≢◌, ◌+◌, ◌<◌, ◌≤◌, ◌==◌, length, None, Err, Ok, OnErr, OnOk, IfOk, IfErr, IfNone, IfSome, IsOk, if◌then◌else◌};
 ghost use Rattle.tf_rows.specs.Counts.{AreBounded, IsReady, counted, settled};
 ghost use Rattle.tf_publish.specs.Partly.{CountsParts};
 ghost use Rattle.tf_publish.specs.Tables.{Publishes, by_name, nothing_fresh};
@@ -13,34 +13,35 @@ ghost use Rattle.tf_records.specs.declared.refusal.Refusal.{Refusal};
 use crate::Forest;
 use std::alloc::Allocator;
 use std::sync::Wait;
-use tf_manifest::Naming;
 use tf_publish::{Prepared, Rows, has_room, prepare_rows};
 use tf_records::Refusal;
+use tf_registry::Naming;
 use tf_rows::{Counts, MutableRows, SealRows, rows_spell_the_journal_they_show};
 
-impl<'r, F: SealRows<A> + Drop, A: Allocator + Copy, N: Naming> Forest<Rows<'r, F, A, N>, A> {
+impl<F: SealRows<A> + Drop, A: Allocator + Copy, N: Naming> Forest<Rows<F, A, N>, A> {
     /// The first half of a publish: seals each mutable table that has an entry and puts it in front of its row's sealed
     /// tables in a copy of these, which alone shows the journal. Where a row is full, its run that is to be merged next is
-    /// merged first. No other row's tables change, and all entries are kept.
+    /// merged first. No other row's tables change, and all entries are kept. None where no mutable table has an entry: then
+    /// it takes no memory, and the sealed tables show the journal already.
     ///
-    /// It copies each entry of the mutable tables once, and may wait in a push. `RegistryFull` is answered before anything
-    /// else, exactly where the tables that are needed, one for each row with entries and one more for each of those that is
-    /// full, don't fit under the limit of pushes. Else the only refusal is `NoMemory`, and where no mutable table has an entry
-    /// there is none at all, and the copy is equal. Everything stays as it was, but that tables that were pushed are counted,
-    /// and their entries, until the copy is settled, both as sealed and as held.
-    pub fn prepare<R: Wait>(&mut self, rt: &R) -> Result<Prepared<'r, A, N>, Refusal>
+    /// It copies each entry of the mutable tables once, and the references of all tables, and may wait in a push.
+    /// `RegistryFull` is answered before anything else, exactly where the tables that are needed, one for each row with
+    /// entries and one more for each of those that is full, don't fit under the limit of pushes. Else the only refusal is
+    /// `NoMemory`. Everything stays as it was, but that tables that were pushed are counted, and their entries, until the
+    /// copy is settled, both as sealed and as held.
+    pub fn prepare<R: Wait>(&mut self, rt: &R) -> Result<Option<Prepared<A, N>>, Refusal>
         requires { self.old.kept ≡ length self.old.journal }
-        ensures shows { IfOk result (λ prepared. ShowsJournal prepared.tables self.new.journal) }
-        ensures publishes { IfOk result (λ prepared. Publishes (by_name self.old.fresh) (counted self.old.sealed) prepared) }
-        ensures counted { IfOk result (λ prepared. prepared.tables.pushed.count ≡ self.old.sealed.tables.pushed.count + self.old.needed) }
-        ensures sealed { IfOk result (λ prepared. prepared.sealed ≡ self.old.sealed.counts.rows_sealed + self.old.waiting) }
-        ensures ready { IfOk result (IsReady self.new.sealed) }
+        ensures shows { IfOk result (λ found. IfSome found (λ prepared. ShowsJournal prepared.tables self.new.journal)) }
+        ensures publishes { IfOk result (λ found. IfSome found (λ prepared. Publishes (by_name self.old.fresh) (counted self.old.sealed) prepared)) }
+        ensures counted { IfOk result (λ found. IfSome found (λ prepared. prepared.tables.pushed.count ≡ self.old.sealed.tables.pushed.count + self.old.needed)) }
+        ensures sealed { IfOk result (λ found. IfSome found (λ prepared. prepared.sealed ≡ self.old.sealed.counts.rows_sealed + self.old.waiting)) }
+        ensures ready { IfOk result (λ found. IfSome found (IsReady self.new.sealed)) }
         ensures fits { OnOk result (self.old.sealed.tables.pushed.count + self.old.needed ≤ self.old.sealed.tables.pushed.limit) }
         ensures waits { IsUnpublished self.old self.new }
         ensures parts { CountsParts (by_name self.old.fresh) self.old.sealed self.new.sealed }
-        ensures idle { self.old.waiting ≡ 0 → IsOk result }
+        ensures none { IfOk result (λ found. IfNone found (self.old.waiting ≡ 0)) }
+        ensures idle { self.old.waiting ≡ 0 → result ≡ Ok None }
         ensures still { self.old.waiting ≡ 0 → self.new ≡ self.old }
-        ensures equal { IfOk result (λ prepared. self.old.waiting ≡ 0 → prepared ≡ counted self.old.sealed) }
         ensures full { result ≡ Err Refusal.RegistryFull → (self.new ≡ self.old) × (self.old.sealed.tables.pushed.limit < self.old.sealed.tables.pushed.count + self.old.needed) }
         ensures refused { IfErr result (λ refusal. refusal ≢ Refusal.RegistryFull → (refusal ≡ Refusal.NoMemory) × (self.old.sealed.tables.pushed.count + self.old.needed ≤ self.old.sealed.tables.pushed.limit)) }
     {
@@ -56,11 +57,11 @@ impl<'r, F: SealRows<A> + Drop, A: Allocator + Copy, N: Naming> Forest<Rows<'r, 
     ///
     /// Nothing was added, published or installed since `prepare`: the tables show the journal, and all that was pushed was
     /// pushed for them.
-    pub fn settle(&mut self, prepared: &Prepared<'r, A, N>)
+    pub fn settle(&mut self, prepared: Prepared<A, N>)
         requires kept { self.old.kept ≡ length self.old.journal }
-        requires shows { ShowsJournal prepared.now.tables self.old.journal }
-        requires ready { IsReady self.old.sealed prepared.now }
-        ensures { self.new ≡ record self.old { sealed = settled prepared.now self.old.sealed; fresh = nothing_fresh; needed = 0; waiting = 0 } }
+        requires shows { ShowsJournal prepared.tables self.old.journal }
+        requires ready { IsReady self.old.sealed prepared }
+        ensures { self.new ≡ record self.old { sealed = settled prepared self.old.sealed; fresh = nothing_fresh; needed = 0; waiting = 0 } }
     {
         rows_spell_the_journal_they_show();
         self.rows.published.settle(prepared);
@@ -93,17 +94,19 @@ impl<'r, F: SealRows<A> + Drop, A: Allocator + Copy, N: Naming> Forest<Rows<'r, 
         ensures refused { IfErr result (λ refusal. refusal ≢ Refusal.RegistryFull → (refusal ≡ Refusal.NoMemory) × (self.old.sealed.tables.pushed.count + self.old.needed ≤ self.old.sealed.tables.pushed.limit)) }
     {
         self.facts();
+        self.facts_of_rows();
         match self.prepare(rt) {
-            Ok(prepared) => {
-                self.settle(&prepared);
+            Ok(Some(prepared)) => {
+                self.settle(prepared);
                 Ok(())
             }
+            Ok(None) => Ok(()),
             Err(refusal) => Err(refusal),
         }
     }
 }
 
-impl<'r, F: MutableRows + Drop, A: Allocator + Copy, N: Naming> Forest<Rows<'r, F, A, N>, A> {
+impl<F: MutableRows + Drop, A: Allocator + Copy, N: Naming> Forest<Rows<F, A, N>, A> {
     /// What always holds of the rows: the mutable tables in front of the sealed ones show the journal, the sealed ones alone do
     /// where nothing waits, and the counts keep their bounds. It does nothing.
     pub fn facts_of_rows(&self)

@@ -3,15 +3,17 @@ use Rattle.std.proofs.Common.{◌≡◌, ℕ, ◌<◌, List, [], Ok, Err, Result
 use Rattle.std.specs.Prelude.{slice_index_or}
 use Rattle.tf_table.specs.declared.key.Key.{Key}
 use Rattle.tf_manifest.specs.declared.jobs.Merged.{Merged}
-use Rattle.tf_manifest.specs.declared.uninstalled.Uninstalled.{Uninstalled}
-use Rattle.tf_manifest.specs.declared.uninstalled.Uninstalled.TheVariants.{NoMemory, Stale, RegistryFull}
+use Rattle.tf_registry.specs.declared.uninstalled.Uninstalled.{Uninstalled}
+use Rattle.tf_registry.specs.declared.uninstalled.Uninstalled.TheVariants.{NoMemory, Stale, RegistryFull}
 use Rattle.tf_manifest.specs.declared.kind.Kind.{Kind}
 use Rattle.tf_manifest.specs.declared.row.Row.{Row}
-use Rattle.tf_manifest.specs.Install.{AreParts, IfNoMemory, OnFull, OnStale}
+use Rattle.tf_registry.specs.Install.{IfNoMemory, OnFull, OnStale}
+use Rattle.tf_manifest.specs.Install.{AreParts}
 use Rattle.tf_manifest.specs.Jobs.{Answers, kind_of_merged, output_of}
-use Rattle.tf_manifest.specs.Limit.{Pushed, one_more}
-use Rattle.tf_manifest.specs.Run.{Output, Stands, InstallsAt}
-use Rattle.tf_manifest.specs.Table.{Shown}
+use Rattle.tf_registry.specs.Limit.{Pushed, one_more}
+use Rattle.tf_registry.specs.Run.{Output, Stands}
+use Rattle.tf_manifest.specs.KindRows.{InstallsAt}
+use Rattle.tf_registry.specs.Table.{Shown}
 use Rattle.tf_manifest.specs.View.{View, StoredBy, content_in, place_by, rows_by, with_rows}
 use Rattle.tf_manifest.proofs.Views.{with_same, content_installed}
 

@@ -1,7 +1,4 @@
-pub mod Rows
-pub mod Picks
 pub mod Maps
-pub mod Installs
 pub mod Entries
 pub mod Examples
 pub mod Members
@@ -12,4 +9,5 @@ pub mod Spelled
 pub mod Views
 pub mod Answered
 pub mod ByKind
-pub mod Firsts
+pub mod Halves
+pub mod Kept

@@ -9,9 +9,9 @@ use Rattle.tf_manifest.specs.declared.kind.Kind.TheVariants as kind
 use Rattle.tf_manifest.specs.declared.row.Row.{Row}
 use Rattle.tf_manifest.specs.Jobs.{kind_of_merged, InstallsIn}
 use Rattle.tf_manifest.specs.Kinds.{kind_of}
-use Rattle.tf_manifest.specs.Limit.{Pushed, one_more}
-use Rattle.tf_manifest.specs.Row.{content_at}
-use Rattle.tf_manifest.specs.Table.{Shown}
+use Rattle.tf_registry.specs.Limit.{Pushed, one_more}
+use Rattle.tf_registry.specs.Row.{content_at}
+use Rattle.tf_registry.specs.Table.{Shown}
 use Rattle.tf_manifest.specs.View.{View, StoredBy, value_by, rows_by, with_rows, place_by, value_in_kind, content_in}
 
 -- with the rows that it had it is as it was

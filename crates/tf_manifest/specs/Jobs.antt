@@ -4,15 +4,16 @@ use Rattle.tf_manifest.specs.declared.jobs.Job.{Job}
 use Rattle.tf_manifest.specs.declared.jobs.Job.TheVariants as job
 use Rattle.tf_manifest.specs.declared.jobs.Merged.{Merged}
 use Rattle.tf_manifest.specs.declared.jobs.Merged.TheVariants as merged
-use Rattle.tf_manifest.specs.declared.uninstalled.Uninstalled.{Uninstalled}
-use Rattle.tf_manifest.specs.declared.uninstalled.Uninstalled.TheVariants.{NoMemory, Stale, RegistryFull}
+use Rattle.tf_registry.specs.declared.uninstalled.Uninstalled.{Uninstalled}
+use Rattle.tf_registry.specs.declared.uninstalled.Uninstalled.TheVariants.{NoMemory, Stale, RegistryFull}
 use Rattle.tf_manifest.specs.declared.kind.Kind.{Kind}
 use Rattle.tf_manifest.specs.declared.kind.Kind.TheVariants as kind
 use Rattle.tf_manifest.specs.declared.row.Row.{Row}
 use Rattle.tf_manifest.specs.Kinds.{kind_of}
-use Rattle.tf_manifest.specs.Limit.{one_more}
-use Rattle.tf_manifest.specs.Run.{Run, Output, IsPicked, IsRun, IsMergeOf, Stands, InstallsAt}
-use Rattle.tf_manifest.specs.Table.{Shown}
+use Rattle.tf_registry.specs.Limit.{one_more}
+use Rattle.tf_registry.specs.Run.{Run, Output, IsPicked, IsRun, IsMergeOf, Stands}
+use Rattle.tf_manifest.specs.KindRows.{InstallsAt}
+use Rattle.tf_registry.specs.Table.{Shown}
 use Rattle.tf_manifest.specs.View.{View, StoredBy, rows_by, with_rows, tables_by, place_by}
 
 module _ {A N : Type 0} where

@@ -1,14 +1,11 @@
-pub mod Table
-pub mod Reference
-pub mod Row
 pub mod RowNames
 pub mod Kinds
 pub mod Rows
 pub mod Shows
-pub mod Run
-pub mod Limit
 pub mod Install
+pub mod KindRows
 pub mod View
+pub mod Halves
 pub mod Registries
 pub mod Jobs
 pub mod Fields

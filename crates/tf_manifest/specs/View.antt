@@ -1,5 +1,5 @@
 -- What contracts see of a manifest: the tables of the 21 rows, by the kinds of their values, and the tables pushed.
-use Rattle.std.specs.Prelude.{ℕ, ◌≤◌, List, [], replicate, length, slice_index_or, Option}
+use Rattle.std.specs.Prelude.{◌≡◌, ℕ, ◌≤◌, List, [], replicate, length, slice_index_or, Option}
 use Rattle.std.specs.List.{All}
 use Rattle.std.specs.Option.{option_map}
 use Rattle.tf_journal.specs.declared.entry.Entry.{Entry}
@@ -17,10 +17,10 @@ use Rattle.tf_manifest.specs.declared.value.State.{State}
 use Rattle.tf_manifest.specs.declared.value.Value.{Value}
 use Rattle.tf_manifest.specs.declared.value.Value.TheVariants as value
 use Rattle.tf_manifest.specs.Kinds.{id_value, kind_of, stamp_index, unit_index}
-use Rattle.tf_manifest.specs.Limit.{Pushed}
-use Rattle.tf_manifest.specs.Row.{content_at, weight}
+use Rattle.tf_registry.specs.Limit.{Pushed}
+use Rattle.tf_registry.specs.Row.{content_at, weight}
 use Rattle.tf_manifest.specs.Shows.{Content, Shows}
-use Rattle.tf_manifest.specs.Table.{Shown}
+use Rattle.tf_registry.specs.Table.{Shown}
 
 -- the tables of each row, and how many were pushed
 pub record View : Type 0 where
@@ -118,6 +118,17 @@ pub record IsLight (view : View) : Type 0 where
   pub states : AreLight view.pushed.count view.states
   pub sums : AreLight view.pushed.count view.sums
   pub statuses : AreLight view.pushed.count view.statuses
+
+-- as many rows of each kind as there are
+pub record HasRows (view : View) : Type 0 where
+  pub stamps : length view.stamps ≡ 2
+  pub accounts : length view.accounts ≡ 1
+  pub transfers : length view.transfers ≡ 1
+  pub ids : length view.ids ≡ 1
+  pub units : length view.units ≡ 13
+  pub states : length view.states ≡ 1
+  pub sums : length view.sums ≡ 1
+  pub statuses : length view.statuses ≡ 1
 
 -- no table in any row, and none pushed
 abbrev pub no_tables : ℕ → View

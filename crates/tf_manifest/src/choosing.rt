@@ -1,64 +1,67 @@
 //! Jobs of a manifest's rows: picked, and installed once merged.
-ghost use Rattle.std.specs.Prelude.{◌≡◌, ◌<◌, ℕ, OnOk, OnErr, IfErr, IfSome, IfNone, IsSome};
+ghost use Rattle.std.specs.Prelude.{◌≡◌, ◌<◌, ℕ, OnOk, OnErr, IfErr, IfOk, IfSome, IfNone, IsSome};
 ghost use Rattle.tf_manifest.specs.Jobs.{Answers, InstallsIn, IsPickedFrom, StandsIn};
-ghost use Rattle.tf_manifest.specs.Install.{AreParts, IfNoMemory, OnFull, OnStale};
+ghost use Rattle.tf_registry.specs.Install.{IfNoMemory, OnFull, OnStale};
+ghost use Rattle.tf_manifest.specs.Install.{AreParts};
 ghost use Rattle.tf_manifest.specs.Kinds.{kind_of};
-ghost use Rattle.tf_manifest.specs.Run.{count_at};
+ghost use Rattle.tf_registry.specs.Run.{count_at};
 ghost use Rattle.tf_manifest.specs.View.{content_in, references_in, tables_by};
 ghost use Rattle.tf_table.specs.declared.key.Key.{Key};
 
-use crate::{Job, Kind, Manifest, Merged, Naming, Row, Uninstalled};
-use std::alloc::Allocator;
+use crate::{Job, Kind, Manifest, Merged, Row};
+use std::alloc::{AllocError, Allocator};
 use std::sync::Wait;
+use tf_registry::{Naming, Uninstalled};
 
-impl<'r, A: Allocator, N: Naming> Manifest<'r, A, N> {
+impl<A: Allocator, N: Naming> Manifest<A, N> {
     /// The run of a row to merge next: the two oldest tables of the lowest level that has at least four. None where no
     /// level has four, which a row of 64 tables never is.
     ///
-    /// It looks at each reference of the row once, and takes no memory.
-    pub fn pick(&self, row: Row) -> Option<Job<'r, A, N>>
-        ensures some { IfSome result (IsPickedFrom self.now row) }
-        ensures none { IfNone result ((level : ℕ) → count_at level (tables_by self.now (kind_of row)) < 4) }
-        ensures full { references_in self.now row ≡ 64 → IsSome result }
+    /// It looks at each reference of the row once, and takes no memory. An `Err` comes only where one of the two tables has
+    /// 2^63 - 1 owners, which contracts can't see.
+    pub fn pick(&self, row: Row) -> Result<Option<Job<A, N>>, AllocError>
+        ensures some { IfOk result (λ found. IfSome found (IsPickedFrom self.now row)) }
+        ensures none { IfOk result (λ found. IfNone found ((level : ℕ) → count_at level (tables_by self.now (kind_of row)) < 4)) }
+        ensures full { references_in self.now row ≡ 64 → IfOk result IsSome }
     {
         match row.kind() {
-            Kind::Stamp(row) => match self.stamps.row(row.index()).pick() {
-                Some(job) => Some(Job::Stamp(row, job)),
-                None => None,
+            Kind::Stamp(row) => match self.stamps.row(row.index()).pick()? {
+                Some(job) => Ok(Some(Job::Stamp(row, job))),
+                None => Ok(None),
             },
-            Kind::Account => match self.accounts.row(0).pick() {
-                Some(job) => Some(Job::Account(job)),
-                None => None,
+            Kind::Account => match self.accounts.row(0).pick()? {
+                Some(job) => Ok(Some(Job::Account(job))),
+                None => Ok(None),
             },
-            Kind::Transfer => match self.transfers.row(0).pick() {
-                Some(job) => Some(Job::Transfer(job)),
-                None => None,
+            Kind::Transfer => match self.transfers.row(0).pick()? {
+                Some(job) => Ok(Some(Job::Transfer(job))),
+                None => Ok(None),
             },
-            Kind::Id => match self.ids.row(0).pick() {
-                Some(job) => Some(Job::Id(job)),
-                None => None,
+            Kind::Id => match self.ids.row(0).pick()? {
+                Some(job) => Ok(Some(Job::Id(job))),
+                None => Ok(None),
             },
-            Kind::Unit(row) => match self.units.row(row.index()).pick() {
-                Some(job) => Some(Job::Unit(row, job)),
-                None => None,
+            Kind::Unit(row) => match self.units.row(row.index()).pick()? {
+                Some(job) => Ok(Some(Job::Unit(row, job))),
+                None => Ok(None),
             },
-            Kind::State => match self.states.row(0).pick() {
-                Some(job) => Some(Job::State(job)),
-                None => None,
+            Kind::State => match self.states.row(0).pick()? {
+                Some(job) => Ok(Some(Job::State(job))),
+                None => Ok(None),
             },
-            Kind::Sums => match self.sums.row(0).pick() {
-                Some(job) => Some(Job::Sums(job)),
-                None => None,
+            Kind::Sums => match self.sums.row(0).pick()? {
+                Some(job) => Ok(Some(Job::Sums(job))),
+                None => Ok(None),
             },
-            Kind::Status => match self.statuses.row(0).pick() {
-                Some(job) => Some(Job::Status(job)),
-                None => None,
+            Kind::Status => match self.statuses.row(0).pick()? {
+                Some(job) => Ok(Some(Job::Status(job))),
+                None => Ok(None),
             },
         }
     }
 }
 
-impl<'r, A: Allocator + Clone, N: Naming> Manifest<'r, A, N> {
+impl<A: Allocator + Clone, N: Naming> Manifest<A, N> {
     /// Puts a merged table in the place of its run, wherever that stands now, and counts it. It may wait in the push.
     ///
     /// `Stale` says that the run's references aren't there, adjacent and in order and with none of their level behind
@@ -67,16 +70,16 @@ impl<'r, A: Allocator + Clone, N: Naming> Manifest<'r, A, N> {
     pub fn install<R: Wait>(
         &mut self,
         rt: &R,
-        merged: Merged<'r, A, N>,
-    ) -> Result<(), Uninstalled<Merged<'r, A, N>>>
-        ensures installs { OnOk result (InstallsIn self.old merged.entry self.new) }
+        merged: Merged<A, N>,
+    ) -> Result<(), Uninstalled<Merged<A, N>>>
+        ensures installs { OnOk result (InstallsIn self.old merged self.new) }
         ensures content { (row : Row) (key : Key) → content_in self.new row key ≡ content_in self.old row key }
         ensures room { OnOk result (self.old.pushed.count < self.old.pushed.limit) }
         ensures err { OnErr result (self.new ≡ self.old) }
-        ensures stale { IfErr result (λ e. OnStale e (StandsIn self.old merged.entry → ⊥)) }
-        ensures full { IfErr result (λ e. OnFull e (StandsIn self.old merged.entry × (self.old.pushed.count ≡ self.old.pushed.limit))) }
-        ensures no_memory { IfErr result (λ e. IfNoMemory e (λ m. StandsIn self.old merged.entry × (self.old.pushed.count < self.old.pushed.limit))) }
-        ensures back { IfErr result (λ e. IfNoMemory e (λ m. m ≡ merged.entry)) }
+        ensures stale { IfErr result (λ e. OnStale e (StandsIn self.old merged → ⊥)) }
+        ensures full { IfErr result (λ e. OnFull e (StandsIn self.old merged × (self.old.pushed.count ≡ self.old.pushed.limit))) }
+        ensures no_memory { IfErr result (λ e. IfNoMemory e (λ m. StandsIn self.old merged × (self.old.pushed.count < self.old.pushed.limit))) }
+        ensures back { IfErr result (λ e. IfNoMemory e (λ m. m ≡ merged)) }
     {
         self.put(rt, merged)
     }
@@ -85,9 +88,9 @@ impl<'r, A: Allocator + Clone, N: Naming> Manifest<'r, A, N> {
     fn put<R: Wait>(
         &mut self,
         rt: &R,
-        merged: Merged<'r, A, N>,
-    ) -> Result<(), Uninstalled<Merged<'r, A, N>>>
-        ensures { Answers self.old merged.entry result self.new }
+        merged: Merged<A, N>,
+    ) -> Result<(), Uninstalled<Merged<A, N>>>
+        ensures { Answers self.old merged result self.new }
     {
         let pushes = &mut self.pushes;
         match merged {

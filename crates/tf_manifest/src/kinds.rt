@@ -1,12 +1,24 @@
 //! The kinds of values that rows store.
 ghost use Rattle.std.specs.Prelude.{◌≡◌, false};
 ghost use Rattle.tf_manifest.specs.Kinds.{id_value};
+ghost use Rattle.tf_manifest.specs.declared.value.Value.{Value};
 ghost use Rattle.tf_manifest.specs.declared.value.Value.TheVariants as value;
 
-use crate::{IdStamp, RowValue, State, Value};
+use crate::{IdStamp, State, Value};
 use tf_journal::Status;
 use tf_records::{Account, Sums, Transfer};
+use tf_registry::TableValue;
 use tf_table::Repeats;
+
+/// What a row stores.
+pub trait RowValue: TableValue {
+    /// The value that a row of it has.
+    ghost seen: { Self → Value };
+
+    /// The stored value as a row's value.
+    fn to_value(self) -> Value
+        ensures { result ≡ seen self };
+}
 
 /// A record of a lower crate, as a row stores it. It has the bytes of the record.
 #[derive(Clone, Copy, Debug, PartialEq, Eq)]
@@ -46,8 +58,6 @@ impl Repeats for State {
 
 /// A timestamp, in account_ids and expiry_entries.
 impl RowValue for u64 {
-    ghost kind = { 0 };
-
     ghost seen = { λ stamp. value.Stamp stamp };
 
     fn to_value(self) -> Value {
@@ -55,10 +65,12 @@ impl RowValue for u64 {
     }
 }
 
+impl TableValue for Stored<Account> {
+    ghost kind = { 1 };
+}
+
 /// The accounts of account_objects.
 impl RowValue for Stored<Account> {
-    ghost kind = { 1 };
-
     ghost seen = { λ stored. value.Account stored.record };
 
     fn to_value(self) -> Value {
@@ -66,10 +78,12 @@ impl RowValue for Stored<Account> {
     }
 }
 
+impl TableValue for Stored<Transfer> {
+    ghost kind = { 2 };
+}
+
 /// The transfers of transfer_objects.
 impl RowValue for Stored<Transfer> {
-    ghost kind = { 2 };
-
     ghost seen = { λ stored. value.Transfer stored.record };
 
     fn to_value(self) -> Value {
@@ -77,10 +91,12 @@ impl RowValue for Stored<Transfer> {
     }
 }
 
+impl TableValue for IdStamp {
+    ghost kind = { 3 };
+}
+
 /// What transfer ids were used for, in transfer_ids.
 impl RowValue for IdStamp {
-    ghost kind = { 3 };
-
     ghost seen = { id_value };
 
     fn to_value(self) -> Value {
@@ -93,8 +109,6 @@ impl RowValue for IdStamp {
 
 /// Nothing, in the indexes and in expiry: a key alone says all.
 impl RowValue for () {
-    ghost kind = { 4 };
-
     ghost seen = { λ nothing. value.Unit };
 
     fn to_value(self) -> Value {
@@ -102,10 +116,12 @@ impl RowValue for () {
     }
 }
 
+impl TableValue for State {
+    ghost kind = { 5 };
+}
+
 /// The present sums of account_sums.
 impl RowValue for State {
-    ghost kind = { 5 };
-
     ghost seen = { λ state. value.State state };
 
     fn to_value(self) -> Value {
@@ -113,10 +129,12 @@ impl RowValue for State {
     }
 }
 
+impl TableValue for Stored<Sums> {
+    ghost kind = { 6 };
+}
+
 /// The sums of history.
 impl RowValue for Stored<Sums> {
-    ghost kind = { 6 };
-
     ghost seen = { λ stored. value.Sums stored.record };
 
     fn to_value(self) -> Value {
@@ -124,10 +142,12 @@ impl RowValue for Stored<Sums> {
     }
 }
 
+impl TableValue for Stored<Status> {
+    ghost kind = { 7 };
+}
+
 /// What became of pending transfers, in pending_status.
 impl RowValue for Stored<Status> {
-    ghost kind = { 7 };
-
     ghost seen = { λ stored. value.Status stored.record };
 
     fn to_value(self) -> Value {

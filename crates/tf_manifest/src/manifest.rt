@@ -1,47 +1,50 @@
 //! The sealed tables of all rows.
-ghost use Rattle.std.specs.Prelude.{◌≡◌, ◌≤◌};
+ghost use Rattle.std.specs.Prelude.{◌≡◌, ◌≤◌, IfErr, IfOk};
 ghost use Rattle.tf_table.specs.Content.{entry_of};
 ghost use Rattle.tf_table.specs.First.{IsFirstAbove};
 ghost use Rattle.tf_manifest.specs.Kinds.{kind_of};
-ghost use Rattle.tf_manifest.specs.Limit.{IsWithinLimit};
+ghost use Rattle.tf_registry.specs.Limit.{IsWithinLimit};
 ghost use Rattle.tf_manifest.specs.Registries.{AreShelves};
-ghost use Rattle.tf_manifest.specs.Row.{lists_of};
+ghost use Rattle.tf_registry.specs.Row.{lists_of};
 ghost use Rattle.tf_manifest.specs.View.{View, IsLight, content_in, no_tables, references_in, tables_by};
 
-use crate::{IdStamp, Kind, KindRows, Naming, Pushes, Registries, Row, State, Stored, Value};
+use crate::making::{new_records, new_states, records_again, states_again};
+use crate::{IdStamp, Kind, KindRows, Registries, Row, State, Stored, Value};
 use std::alloc::Allocator;
 use std::marker::Model;
 use tf_journal::Status;
-use tf_records::{Account, Sums, Transfer};
+use tf_records::{Account, Refusal, Sums, Transfer};
+use tf_registry::{Naming, Pushes};
 use tf_table::Key;
 
 /// The sealed tables of the 21 rows, by the kinds of their values, and how many tables were pushed.
 ///
-/// It holds references alone, so a copy of it is a version, which nothing that happens to the original changes. No row
-/// weighs more than the tables pushed, so a row gains a table only where one was pushed and counted first.
+/// It holds references alone, so a copy of it is a version, which nothing that happens to the original changes, and which
+/// keeps its tables while it lives. No row weighs more than the tables pushed, so a row gains a table only where one was
+/// pushed and counted first.
 #[derive(Drop)]
-pub struct Manifest<'r, A: Allocator, N: Naming> {
+pub struct Manifest<A: Allocator, N: Naming> {
     /// account_ids and expiry_entries.
-    pub stamps: KindRows<'r, u64, A, N, 2>,
+    pub stamps: KindRows<u64, A, N>,
     /// account_objects.
-    pub accounts: KindRows<'r, Stored<Account>, A, N, 1>,
+    pub accounts: KindRows<Stored<Account>, A, N>,
     /// transfer_objects.
-    pub transfers: KindRows<'r, Stored<Transfer>, A, N, 1>,
+    pub transfers: KindRows<Stored<Transfer>, A, N>,
     /// transfer_ids.
-    pub ids: KindRows<'r, IdStamp, A, N, 1>,
+    pub ids: KindRows<IdStamp, A, N>,
     /// The indexes, and expiry.
-    pub units: KindRows<'r, (), A, N, 13>,
+    pub units: KindRows<(), A, N>,
     /// account_sums.
-    pub states: KindRows<'r, State, A, N, 1>,
+    pub states: KindRows<State, A, N>,
     /// history.
-    pub sums: KindRows<'r, Stored<Sums>, A, N, 1>,
+    pub sums: KindRows<Stored<Sums>, A, N>,
     /// pending_status.
-    pub statuses: KindRows<'r, Stored<Status>, A, N, 1>,
+    pub statuses: KindRows<Stored<Status>, A, N>,
     pub pushes: Pushes,
 }
 
-impl<'r, A: Allocator, N: Naming> Model for Manifest<'r, A, N> {
-    ghost use Rattle.tf_manifest.specs.View.{View, IsLight};
+impl<A: Allocator, N: Naming> Model for Manifest<A, N> {
+    ghost use Rattle.tf_manifest.specs.View.{View, HasRows, IsLight};
 
     ghost Value = { View };
 
@@ -49,60 +52,10 @@ impl<'r, A: Allocator, N: Naming> Model for Manifest<'r, A, N> {
 
     ghost view = { view_of };
 
-    ghost invariant = { λ m. IsLight (view_of m) };
+    ghost invariant = { λ m. IsLight (view_of m) × HasRows (view_of m) };
 }
 
-impl<'r, A: Allocator, N: Naming> Manifest<'r, A, N> {
-    /// No tables in any row, none pushed. It takes no memory.
-    pub fn new(registries: &'r Registries<A>) -> Manifest<'r, A, N>
-        requires { AreShelves N.shelf registries.now }
-        ensures { result ≡ no_tables registries.now.limit }
-    {
-        Manifest {
-            stamps: KindRows::new(&registries.stamps),
-            accounts: KindRows::new(&registries.accounts),
-            transfers: KindRows::new(&registries.transfers),
-            ids: KindRows::new(&registries.ids),
-            units: KindRows::new(&registries.units),
-            states: KindRows::new(&registries.states),
-            sums: KindRows::new(&registries.sums),
-            statuses: KindRows::new(&registries.statuses),
-            pushes: Pushes::new(registries.limit),
-        }
-    }
-
-    /// A copy, by one pass over the references. It takes no memory.
-    pub fn again(&self) -> Manifest<'r, A, N>
-        ensures { result ≡ self.now }
-    {
-        Manifest {
-            stamps: self.stamps.again(),
-            accounts: self.accounts.again(),
-            transfers: self.transfers.again(),
-            ids: self.ids.again(),
-            units: self.units.again(),
-            states: self.states.again(),
-            sums: self.sums.again(),
-            statuses: self.statuses.again(),
-            pushes: self.pushes,
-        }
-    }
-
-    /// Makes this manifest what `other` is, in place, by one pass over the references in use. It takes no memory.
-    pub fn copy_from(&mut self, other: &Manifest<'r, A, N>)
-        ensures { self.new ≡ other.now }
-    {
-        self.stamps.copy_from(&other.stamps);
-        self.accounts.copy_from(&other.accounts);
-        self.transfers.copy_from(&other.transfers);
-        self.ids.copy_from(&other.ids);
-        self.units.copy_from(&other.units);
-        self.states.copy_from(&other.states);
-        self.sums.copy_from(&other.sums);
-        self.statuses.copy_from(&other.statuses);
-        self.pushes = other.pushes;
-    }
-
+impl<A: Allocator, N: Naming> Manifest<A, N> {
     /// How many tables a row has, at most 64.
     pub fn references(&self, row: Row) -> u32
         ensures value { result ≡ references_in self.now row }
@@ -168,5 +121,60 @@ impl<'r, A: Allocator, N: Naming> Manifest<'r, A, N> {
         ensures { result ≡ self.now.pushed.limit }
     {
         self.pushes.limit()
+    }
+}
+
+impl<A: Allocator + Clone, N: Naming> Manifest<A, N> {
+    /// No tables in any row, none pushed. It takes memory for 64 references of each row, some 43 KB in all. The only refusal
+    /// is `NoMemory`, which a registry with 2^63 - 1 owners gives too.
+    pub fn new(registries: &Registries<A>, alloc: A) -> Result<Manifest<A, N>, Refusal>
+        requires { AreShelves N.shelf registries.now }
+        ensures none { IfOk result (λ manifest. manifest ≡ no_tables registries.now.limit) }
+        ensures err { IfErr result (λ refusal. refusal ≡ Refusal.NoMemory) }
+    {
+        let records = new_records(registries, &alloc);
+        let states = new_states(registries, &alloc);
+        let Some((records, states)) = records.zip(states) else {
+            return Err(Refusal::NoMemory);
+        };
+        let ((stamps, accounts), (transfers, ids)) = records;
+        let ((units, states), (sums, statuses)) = states;
+        Ok(Manifest {
+            stamps,
+            accounts,
+            transfers,
+            ids,
+            units,
+            states,
+            sums,
+            statuses,
+            pushes: Pushes::new(registries.limit),
+        })
+    }
+
+    /// A copy, by one more owner for each table. It takes memory as a new manifest does, and copies no table. The only
+    /// refusal is `NoMemory`, which a table with 2^63 - 1 owners gives too.
+    pub fn again(&self, alloc: A) -> Result<Manifest<A, N>, Refusal>
+        ensures copy { IfOk result (λ manifest. manifest ≡ self.now) }
+        ensures err { IfErr result (λ refusal. refusal ≡ Refusal.NoMemory) }
+    {
+        let records = records_again(self, &alloc);
+        let states = states_again(self, &alloc);
+        let Some((records, states)) = records.zip(states) else {
+            return Err(Refusal::NoMemory);
+        };
+        let ((stamps, accounts), (transfers, ids)) = records;
+        let ((units, states), (sums, statuses)) = states;
+        Ok(Manifest {
+            stamps,
+            accounts,
+            transfers,
+            ids,
+            units,
+            states,
+            sums,
+            statuses,
+            pushes: self.pushes,
+        })
     }
 }

@@ -3,11 +3,12 @@ ghost use Rattle.std.specs.Prelude.{◌≡◌, IfOk, IfErr};
 ghost use Rattle.tf_manifest.specs.Kinds.{kind_of};
 ghost use Rattle.tf_manifest.specs.Jobs.{HasEntries, IsMerged, job_of, kind_of_job};
 
-use crate::{Job, Kind, Merged, Naming, Row};
+use crate::{Job, Kind, Merged, Row};
 use std::alloc::Allocator;
 use tf_records::Refusal;
+use tf_registry::Naming;
 
-impl<'r, A: Allocator, N: Naming> Job<'r, A, N> {
+impl<A: Allocator, N: Naming> Job<A, N> {
     /// Its row.
     pub fn row(&self) -> Row
         ensures { kind_of result ≡ kind_of_job self.now }
@@ -32,11 +33,12 @@ impl<'r, A: Allocator, N: Naming> Job<'r, A, N> {
     }
 }
 
-impl<'r, A: Allocator + Clone, N: Naming> Job<'r, A, N> {
+impl<A: Allocator + Clone, N: Naming> Job<A, N> {
     /// Merges the two tables into one, of the next level. Tombstones go where nothing is older, and stay elsewhere.
     ///
-    /// It goes over both tables once, takes no lock and doesn't wait. The only refusal is `NoMemory`.
-    pub fn merge(&self, alloc: A) -> Result<Merged<'r, A, N>, Refusal>
+    /// It goes over both tables once, takes no lock and doesn't wait. The only refusal is `NoMemory`,
+    /// which a table with 2^63 - 1 owners gives too.
+    pub fn merge(&self, alloc: A) -> Result<Merged<A, N>, Refusal>
         ensures job { IfOk result (λ merged. job_of merged ≡ self.now) }
         ensures merges { IfOk result IsMerged }
         ensures err { IfErr result (λ refusal. refusal ≡ Refusal.NoMemory) }
@@ -54,7 +56,7 @@ impl<'r, A: Allocator + Clone, N: Naming> Job<'r, A, N> {
     }
 }
 
-impl<'r, A: Allocator, N: Naming> Merged<'r, A, N> {
+impl<A: Allocator, N: Naming> Merged<A, N> {
     /// How many entries the merged table has: no more than the two that it was merged from have together.
     pub fn entries(&self) -> usize
         ensures { HasEntries self.now result }

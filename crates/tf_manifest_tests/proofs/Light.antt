@@ -2,8 +2,8 @@
 use Rattle.std.proofs.Common.{◌≡◌, ℕ, ◌+◌, ◌^◌, ◌<◌, ◌≤◌, List, [], ◌∷◌, length, sym, subst, arith}
 use Rattle.std.specs.Prelude.{slice_index_or, slice_set}
 use Rattle.std.proofs.lemmas.List.Elements.{All-set}
-use Rattle.tf_manifest.specs.Row.{weight}
-use Rattle.tf_manifest.specs.Table.{Shown}
+use Rattle.tf_registry.specs.Row.{weight}
+use Rattle.tf_registry.specs.Table.{Shown}
 use Rattle.tf_manifest.specs.View.{AreLight}
 
 one_heavier : (level weighs pushes : ℕ) → level ≡ 0 → weighs ≤ pushes → 2 ^ level + weighs ≤ pushes + 1

@@ -10,11 +10,12 @@ use std::sync::Wait;
 use std::test::Fail;
 use std::thread;
 use std::thread::Threads;
-use tf_manifest::{Job, Manifest, Merged, Naming, Registries, Row, UnitRow, Value};
+use tf_manifest::{Job, Manifest, Merged, Registries, Row, UnitRow, Value};
+use tf_registry::Naming;
 use tf_table::Key;
 
 /// Rows of which one is tried. What tries them names none of the types of a manifest, which are dear to own.
-trait Tried {
+trait Tried: Drop + Sized {
     /// A run of the row that is to be merged.
     type Job: Drop;
     /// A run of the row with the table that it was merged into.
@@ -32,17 +33,17 @@ trait Tried {
     /// Installs a merged table, and tells what became of it.
     fn install<R: Wait>(&mut self, rt: &R, out: Self::Merged) -> Outcome;
 
-    /// Makes the rows what others are, which what happens to those leaves as they are then.
-    fn copy_from(&mut self, other: &Self);
+    /// A copy, which what happens to the rows leaves as it is, if there is memory for it.
+    fn again(&self, alloc: Global) -> Option<Self>;
 
     /// Whether the row has so many tables, and exactly the keys of the numbers below `keys`, and so many tables were pushed.
     fn is_seen(&self, tables: u32, keys: u64, pushed: u32) -> bool;
 }
 
-impl<'r, N: Naming> Tried for Manifest<'r, Global, N> {
-    type Job = Job<'r, Global, N>;
+impl<N: Naming> Tried for Manifest<Global, N> {
+    type Job = Job<Global, N>;
 
-    type Merged = Merged<'r, Global, N>;
+    type Merged = Merged<Global, N>;
 
     fn grow<R: Wait>(&mut self, rt: &R, alloc: Global, number: u64) -> Result<(), Fail> {
         let at = UnitRow::Expiry.index();
@@ -50,20 +51,20 @@ impl<'r, N: Naming> Tried for Manifest<'r, Global, N> {
         grow_at(rt, alloc, &mut self.units, at, pushes, number, ())
     }
 
-    fn job(&self) -> Option<Job<'r, Global, N>> {
-        self.pick(Row::Expiry)
+    fn job(&self) -> Option<Job<Global, N>> {
+        self.pick(Row::Expiry).ok()?
     }
 
-    fn merge(job: &Job<'r, Global, N>, alloc: Global) -> Option<Merged<'r, Global, N>> {
+    fn merge(job: &Job<Global, N>, alloc: Global) -> Option<Merged<Global, N>> {
         job.merge(alloc).ok()
     }
 
-    fn install<R: Wait>(&mut self, rt: &R, out: Merged<'r, Global, N>) -> Outcome {
+    fn install<R: Wait>(&mut self, rt: &R, out: Merged<Global, N>) -> Outcome {
         outcome_of(Manifest::install(self, rt, out))
     }
 
-    fn copy_from(&mut self, other: &Self) {
-        Manifest::copy_from(self, other);
+    fn again(&self, alloc: Global) -> Option<Self> {
+        Manifest::again(self, alloc).ok()
     }
 
     fn is_seen(&self, tables: u32, keys: u64, pushed: u32) -> bool {
@@ -75,7 +76,7 @@ impl<'r, N: Naming> Tried for Manifest<'r, Global, N> {
 }
 
 /// How many tables all rows have.
-fn all_tables<N: Naming>(manifest: &Manifest<'_, Global, N>) -> u32 {
+fn all_tables<N: Naming>(manifest: &Manifest<Global, N>) -> u32 {
     let mut tables = 0u32;
     for row in Row::ALL {
         tables = tables.saturating_add(manifest.references(row));
@@ -84,7 +85,7 @@ fn all_tables<N: Naming>(manifest: &Manifest<'_, Global, N>) -> u32 {
 }
 
 /// Whether the row expiry has exactly the keys of the numbers below `keys`, each found, and the first above the one before.
-fn has_keys<N: Naming>(manifest: &Manifest<'_, Global, N>, keys: u64) -> bool {
+fn has_keys<N: Naming>(manifest: &Manifest<Global, N>, keys: u64) -> bool {
     let mut below = Key::LEAST;
     for number in 0..keys {
         let here = key(number);
@@ -99,7 +100,7 @@ fn has_keys<N: Naming>(manifest: &Manifest<'_, Global, N>, keys: u64) -> bool {
 }
 
 /// Whether the row expiry has a key, and it is the first above the other.
-fn has_next<N: Naming>(manifest: &Manifest<'_, Global, N>, below: &Key, here: &Key) -> bool {
+fn has_next<N: Naming>(manifest: &Manifest<Global, N>, below: &Key, here: &Key) -> bool {
     matches!(manifest.find(Row::Expiry, here), Some(Value::Unit))
         && manifest.first_above(Row::Expiry, below) == Some(*here)
 }
@@ -140,9 +141,13 @@ fn assert_installs<T: Tried, R: Abort + Wait>(
     }
 }
 
-/// A job of two tables leaves four, in a copy none fewer, and makes a second job of theirs stale.
-fn installed_once<T: Tried, R: Abort + Wait>(rt: &R, alloc: Global, rows: &mut T, copy: &mut T) {
-    copy.copy_from(rows);
+/// A job of two tables leaves four, in a copy five, and makes a second job of theirs stale.
+fn installed_once<T: Tried, R: Abort + Wait>(
+    rt: &R,
+    alloc: Global,
+    rows: &mut T,
+) -> Result<(), Fail> {
+    let copy = rows.again(alloc).ok_or("no copy")?;
     let late = merged(alloc, rows);
     let first = merged(alloc, rows);
     assert_installs(rt, rows, first, Outcome::Installed);
@@ -151,6 +156,8 @@ fn installed_once<T: Tried, R: Abort + Wait>(rt: &R, alloc: Global, rows: &mut T
     assert!(rt; rows.is_seen(4, 5, 6));
     assert!(rt; rows.job().is_none());
     assert!(rt; copy.is_seen(5, 5, 5));
+    drop(copy);
+    Ok(())
 }
 
 /// Five tables and more, up to the limit, leave no push for an install, and stay.
@@ -177,9 +184,9 @@ fn installed_later<T: Tried, R: Abort + Wait>(rt: &R, rows: &mut T, out: Option<
 fn merged_beside<N: Naming + Send + Sync>(
     rt: &(impl Abort + Wait + Threads + Sync),
     alloc: Global,
-    manifest: &mut Manifest<'_, Global, N>,
+    manifest: &mut Manifest<Global, N>,
 ) -> Result<(), Fail> {
-    let job = manifest.pick(Row::Expiry).ok_or("no job")?;
+    let job = manifest.pick(Row::Expiry)?.ok_or("no job")?;
     let (out, grown) = thread::join(
         rt,
         move || job.merge(alloc).ok(),
@@ -197,25 +204,35 @@ enum Trial {
     MergedBeside,
 }
 
-fn try_one<'r, N: Naming + Send + Sync>(
-    rt: &(impl Abort + Wait + Threads + Sync),
+/// Adds the five tables, and tries what needs no other thread.
+fn try_here<T: Tried, R: Abort + Wait>(
+    rt: &R,
     alloc: Global,
-    manifest: &mut Manifest<'r, Global, N>,
-    copy: &mut Manifest<'r, Global, N>,
+    rows: &mut T,
     trial: Trial,
 ) -> Result<(), Fail> {
-    grow_to(rt, alloc, manifest, 0, 5)?;
+    grow_to(rt, alloc, rows, 0, 5)?;
     match trial {
-        Trial::InstalledOnce => {
-            installed_once(rt, alloc, manifest, copy);
-            Ok(())
-        }
-        Trial::RefusedAtTheLimit => refused_at_the_limit(rt, alloc, manifest),
-        Trial::MergedBeside => merged_beside(rt, alloc, manifest),
+        Trial::InstalledOnce => installed_once(rt, alloc, rows),
+        Trial::RefusedAtTheLimit => refused_at_the_limit(rt, alloc, rows),
+        Trial::MergedBeside => Ok(()),
     }
 }
 
-/// Tries something with a manifest of its own, and one to copy it into.
+fn try_one<N: Naming + Send + Sync>(
+    rt: &(impl Abort + Wait + Threads + Sync),
+    alloc: Global,
+    manifest: &mut Manifest<Global, N>,
+    trial: Trial,
+) -> Result<(), Fail> {
+    try_here(rt, alloc, manifest, trial)?;
+    match trial {
+        Trial::MergedBeside => merged_beside(rt, alloc, manifest),
+        _ => Ok(()),
+    }
+}
+
+/// Tries something with a manifest of its own.
 fn with_manifest<N: Naming + Send + Sync>(
     rt: &(impl Abort + Wait + Threads + Sync),
     alloc: Global,
@@ -224,11 +241,9 @@ fn with_manifest<N: Naming + Send + Sync>(
 ) -> Result<(), Fail>
     requires { AreShelves N.shelf registries.now }
 {
-    let mut manifest = Manifest::<'_, Global, N>::new(registries);
+    let mut manifest = Manifest::<Global, N>::new(registries, alloc)?;
     assert!(rt; manifest.limit() == 7);
-    let mut copy = manifest.again();
-    let tried = try_one(rt, alloc, &mut manifest, &mut copy, trial);
-    drop(copy);
+    let tried = try_one(rt, alloc, &mut manifest, trial);
     drop(manifest);
     tried
 }

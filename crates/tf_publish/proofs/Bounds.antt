@@ -7,8 +7,8 @@ use Rattle.tf_manifest.specs.declared.kind.Kind.{Kind}
 use Rattle.tf_manifest.specs.declared.kind.Kind.TheVariants as kind
 use Rattle.tf_manifest.specs.Jobs.{HasEntries, InstallsIn}
 use Rattle.tf_manifest.specs.Kinds.{stamp_index, unit_index}
-use Rattle.tf_manifest.specs.Limit.{Pushed}
-use Rattle.tf_manifest.specs.Table.{Shown}
+use Rattle.tf_registry.specs.Limit.{Pushed}
+use Rattle.tf_registry.specs.Table.{Shown}
 use Rattle.tf_manifest.specs.View.{StoredBy, View, no_tables, tables_by}
 use Rattle.tf_rows.specs.declared.sealed_row.SealedRow.{SealedRow}
 use Rattle.tf_rows.specs.declared.counts.Counts.{Counts}

@@ -1,7 +1,10 @@
 pub mod Sealed
 pub mod Measures
 pub mod Bounds
+pub mod InFront
+pub mod Refused
 pub mod OneRow
 pub mod PublishRows
 pub mod Tables
 pub mod Partly
+pub mod Walks

@@ -7,10 +7,10 @@ use Rattle.tf_manifest.specs.declared.kind.Kind.{Kind}
 use Rattle.tf_manifest.specs.declared.kind.Kind.TheVariants as kind
 use Rattle.tf_manifest.specs.Jobs.{HasEntries, InstallsIn, kind_of_merged, output_of}
 use Rattle.tf_manifest.specs.Kinds.{stamp_index, unit_index}
-use Rattle.tf_manifest.specs.Limit.{Pushed, one_more}
-use Rattle.tf_manifest.specs.Row.{is_nil}
-use Rattle.tf_manifest.specs.Run.{Installs, IsMergeOf, IsRun, Run}
-use Rattle.tf_manifest.specs.Table.{Shown, Table, shown}
+use Rattle.tf_registry.specs.Limit.{Pushed, one_more}
+use Rattle.tf_registry.specs.Row.{is_nil}
+use Rattle.tf_registry.specs.Run.{Installs, IsMergeOf, IsRun, Run}
+use Rattle.tf_registry.specs.Table.{Shown, Table, shown}
 use Rattle.tf_manifest.specs.View.{StoredBy, View, place_by, rows_by, tables_by, with_rows}
 use Rattle.tf_rows.specs.declared.sealed_row.SealedRow.{SealedRow}
 use Rattle.tf_rows.specs.Counts.{all_references, over_all, over_rows, owed, owed_by}

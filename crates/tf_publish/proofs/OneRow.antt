@@ -1,5 +1,5 @@
 -- What of a manifest changes where one row does.
-use Rattle.std.proofs.Common.{◌≡◌, ◌≢◌, ℕ, ◌+◌, ◌<◌, ◌≤◌, List, [], ◌∷◌, length, map, Option, Bool, true, false, cond, refl, sym, ◌∙◌, ap, subst, slice_set, arith}
+use Rattle.std.proofs.Common.{◌≡◌, ◌≢◌, ℕ, ◌+◌, ◌<◌, List, [], ◌∷◌, length, map, Option, Bool, true, false, cond, refl, sym, ◌∙◌, ap, subst, slice_set, arith}
 use Rattle.std.specs.Option.{option_flatten, option_map}
 use Rattle.std.specs.Prelude.{◌==◌}
 use Rattle.std.proofs.lemmas.Bool.{eq-eqb, false≢true}
@@ -13,12 +13,12 @@ use Rattle.tf_manifest.specs.declared.kind.Kind.TheVariants as kind
 use Rattle.tf_manifest.specs.declared.row.Row.{Row}
 use Rattle.tf_manifest.specs.Jobs.{InstallsIn, IsPickedFrom, StandsIn, job_of, kind_of_job, kind_of_merged, run_of}
 use Rattle.tf_manifest.specs.Kinds.{kind_of, stamp_index, unit_index}
-use Rattle.tf_manifest.specs.Limit.{Pushed, one_more}
-use Rattle.tf_manifest.specs.Row.{content_at, is_nil, lists_of}
-use Rattle.tf_manifest.specs.Run.{Stands}
-use Rattle.tf_manifest.specs.Table.{Shown, shown}
+use Rattle.tf_registry.specs.Limit.{Pushed, one_more}
+use Rattle.tf_registry.specs.Row.{content_at, is_nil, lists_of}
+use Rattle.tf_registry.specs.Run.{Stands}
+use Rattle.tf_registry.specs.Table.{Shown, shown}
 use Rattle.tf_manifest.specs.declared.value.Value.{Value}
-use Rattle.tf_manifest.specs.View.{AreLight, IsLight, StoredBy, View, content_in, place_by, references_in, rows_by, tables_by, value_by, value_in_kind, with_rows}
+use Rattle.tf_manifest.specs.View.{StoredBy, View, content_in, place_by, references_in, rows_by, tables_by, value_by, value_in_kind, with_rows}
 use Rattle.tf_rows.specs.Parts.{Entries, seen_rows}
 use Rattle.tf_publish.specs.Publish.{MakesRoom, PublishesRow, needed_for}
 use Rattle.tf_rows.specs.SealedRow.{IsSealedOf, PushesIn, entries_of_sealed, kind_of_sealed}
@@ -214,19 +214,3 @@ module _ {A : Type 0} (fresh : Entries) (r : Row) (old mid new : View) (s : Seal
             omega (arith, counted, references, fewer);
         limit = ap (λ (p : Pushed). p.limit) now ∙ room.limit;
       }
-
--- with more pushes rows are as light
-raised : {V : Type 0} (a b : ℕ) (rows : List (List (Shown V))) → a ≤ b → AreLight a rows → AreLight b rows
-raised a b rows more light = λ i d within. let here = light i d within in omega (arith, here, more)
-
-pub light_with : (view : View) (p : Pushed) → view.pushed.count ≤ p.count → IsLight view → IsLight (record view { pushed = p })
-light_with view p more light = record {
-  stamps = raised view.pushed.count p.count view.stamps more light.stamps;
-  accounts = raised view.pushed.count p.count view.accounts more light.accounts;
-  transfers = raised view.pushed.count p.count view.transfers more light.transfers;
-  ids = raised view.pushed.count p.count view.ids more light.ids;
-  units = raised view.pushed.count p.count view.units more light.units;
-  states = raised view.pushed.count p.count view.states more light.states;
-  sums = raised view.pushed.count p.count view.sums more light.sums;
-  statuses = raised view.pushed.count p.count view.statuses more light.statuses;
-}

@@ -6,7 +6,7 @@ use Rattle.tf_records.specs.declared.refusal.Refusal.{Refusal}
 use Rattle.tf_manifest.specs.declared.row.Row.{Row}
 use Rattle.tf_manifest.specs.Kinds.{kind_of}
 use Rattle.tf_manifest.specs.RowNames.{rows_in_order}
-use Rattle.tf_manifest.specs.Table.{Shown}
+use Rattle.tf_registry.specs.Table.{Shown}
 use Rattle.tf_manifest.specs.View.{StoredBy, references_in, tables_by, value_by}
 use Rattle.tf_rows.specs.Counts.{Counted, Sealed, counted, with_lost}
 use Rattle.tf_rows.specs.Parts.{Entries, place_of}

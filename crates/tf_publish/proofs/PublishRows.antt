@@ -9,12 +9,12 @@ use Rattle.tf_manifest.specs.declared.row.Row.{Row}
 use Rattle.tf_manifest.specs.declared.row.Row.TheVariants as row
 use Rattle.tf_manifest.specs.declared.value.Value.{Value}
 use Rattle.tf_manifest.specs.Kinds.{kind_of}
-use Rattle.tf_manifest.specs.Limit.{Pushed}
-use Rattle.tf_manifest.specs.Table.{Shown}
-use Rattle.tf_manifest.specs.Row.{lists_of}
+use Rattle.tf_registry.specs.Limit.{Pushed}
+use Rattle.tf_registry.specs.Table.{Shown}
+use Rattle.tf_registry.specs.Row.{lists_of}
 use Rattle.tf_manifest.specs.RowNames.{rows_in_order}
 use Rattle.tf_manifest.specs.View.{StoredBy, View, content_in, references_in, tables_by, value_by}
-use Rattle.tf_manifest.proofs.Rows.{under}
+use Rattle.tf_registry.proofs.Rows.{under}
 use Rattle.tf_rows.specs.Counts.{all_references}
 use Rattle.tf_rows.specs.Parts.{Entries, parts_of, place_of, sealed_in, seen_rows, value_of_part}
 use Rattle.tf_publish.specs.Publish.{PublishesRow, entries_waiting, needed_by, needed_for, tables_needed, waiting_in}
@@ -215,3 +215,36 @@ nothing_waits fresh (r ∷ rows) none =
 
 pub none_waits : (fresh : Entries) → ((r : Row) → fresh r ≡ []) → entries_waiting fresh ≡ 0
 none_waits fresh none = nothing_waits fresh rows_in_order none
+
+-- a row needs a table exactly where its mutable table has an entry
+needs_none : (entries : List (Key × Option Value)) (references : ℕ) → needed_for entries references ≡ 0 → length entries ≡ 0
+needs_none [] references none = refl
+needs_none (entry ∷ entries) references none = absurd (by_test (references == 64) none) where
+  by_test : (b : Bool) → ◌≡◌ {A = ℕ} (cond b 2 1) 0 → ⊥
+  by_test true none = omega arith
+  by_test false none = omega arith
+
+none_needs : (entries : List (Key × Option Value)) (references : ℕ) → length entries ≡ 0 → needed_for entries references ≡ 0
+none_needs [] references none = refl
+none_needs (entry ∷ entries) references none = absurd (omega (arith, none))
+
+needed_in : (fresh : Entries) (view : View) (rows : List Row) → needed_by fresh view rows ≡ 0 → waiting_in fresh rows ≡ 0
+needed_in fresh view [] none = refl
+needed_in fresh view (r ∷ rows) none =
+    let own = needs_none (fresh r) (references_in view r) (omega (arith, none)) in
+    let others = needed_in fresh view rows (omega (arith, none)) in
+    omega (arith, own, others)
+
+waits_in : (fresh : Entries) (view : View) (rows : List Row) → waiting_in fresh rows ≡ 0 → needed_by fresh view rows ≡ 0
+waits_in fresh view [] none = refl
+waits_in fresh view (r ∷ rows) none =
+    let own = none_needs (fresh r) (references_in view r) (omega (arith, none)) in
+    let others = waits_in fresh view rows (omega (arith, none)) in
+    omega (arith, own, others)
+
+-- no table is needed exactly where no entry waits
+pub none_where_needless : (fresh : Entries) (view : View) → tables_needed fresh view ≡ 0 → entries_waiting fresh ≡ 0
+none_where_needless fresh view none = needed_in fresh view rows_in_order none
+
+pub needless_where_none : (fresh : Entries) (view : View) → entries_waiting fresh ≡ 0 → tables_needed fresh view ≡ 0
+needless_where_none fresh view none = waits_in fresh view rows_in_order none

@@ -7,11 +7,11 @@ use Rattle.tf_manifest.specs.declared.row.Row.{Row}
 use Rattle.tf_manifest.specs.declared.row.Row.TheVariants as row
 use Rattle.tf_manifest.specs.declared.value.Value.{Value}
 use Rattle.tf_manifest.specs.Kinds.{kind_of}
-use Rattle.tf_manifest.specs.Row.{lists_of}
+use Rattle.tf_registry.specs.Row.{lists_of}
 use Rattle.tf_manifest.specs.View.{View, content_in, no_tables, tables_by, value_by}
 use Rattle.tf_rows.specs.Nest.{AreEmpty}
 use Rattle.tf_rows.specs.Parts.{Entries, GivesBack, IsPut, IsTakenBack, Part, PutsEntry, parts_of, sealed_in, value_of_part}
-use Rattle.tf_manifest.proofs.Rows.{under}
+use Rattle.tf_registry.proofs.Rows.{under}
 use Rattle.tf_rows.proofs.Parts.{value-seen}
 
 -- an entry of the mutable table decides, and else the manifest does

@@ -13,11 +13,11 @@ use Rattle.tf_manifest.specs.declared.row.Row.TheVariants as row
 use Rattle.tf_manifest.specs.declared.value.Value.{Value}
 use Rattle.tf_manifest.specs.Jobs.{InstallsIn, IsMerged, IsPickedFrom, job_of, kind_of_job, kind_of_merged, output_of, run_of}
 use Rattle.tf_manifest.specs.Kinds.{kind_of}
-use Rattle.tf_manifest.specs.Limit.{one_more}
-use Rattle.tf_manifest.specs.Row.{is_nil}
+use Rattle.tf_registry.specs.Limit.{one_more}
+use Rattle.tf_registry.specs.Row.{is_nil}
 use Rattle.tf_manifest.specs.RowNames.{rows_in_order}
-use Rattle.tf_manifest.specs.Run.{IsPicked, Replaces}
-use Rattle.tf_manifest.specs.Table.{Shown, shown}
+use Rattle.tf_registry.specs.Run.{IsPicked, Replaces}
+use Rattle.tf_registry.specs.Table.{Shown, shown}
 use Rattle.tf_manifest.specs.View.{StoredBy, View, references_in, tables_by, value_by}
 use Rattle.tf_rows.specs.declared.sealed_row.SealedRow.{SealedRow}
 use Rattle.tf_rows.specs.Counts.{Counted}

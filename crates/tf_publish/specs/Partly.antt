@@ -5,7 +5,7 @@ use Rattle.tf_manifest.specs.declared.row.Row.{Row}
 use Rattle.tf_manifest.specs.declared.value.Value.{Value}
 use Rattle.tf_manifest.specs.Kinds.{kind_of}
 use Rattle.tf_manifest.specs.RowNames.{rows_in_order}
-use Rattle.tf_manifest.specs.Table.{Shown}
+use Rattle.tf_registry.specs.Table.{Shown}
 use Rattle.tf_manifest.specs.View.{tables_by, value_by}
 use Rattle.tf_rows.specs.Counts.{Counted, Sealed, counted, with_lost}
 use Rattle.tf_rows.specs.Parts.{Entries}

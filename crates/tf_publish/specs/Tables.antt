@@ -4,10 +4,10 @@ use Rattle.tf_table.specs.declared.key.Key.{Key}
 use Rattle.tf_manifest.specs.declared.row.Row.{Row}
 use Rattle.tf_manifest.specs.declared.value.Value.{Value}
 use Rattle.tf_manifest.specs.Kinds.{kind_of}
-use Rattle.tf_manifest.specs.Row.{is_nil}
+use Rattle.tf_registry.specs.Row.{is_nil}
 use Rattle.tf_manifest.specs.RowNames.{rows_in_order}
-use Rattle.tf_manifest.specs.Run.{IsMergeOf, IsPicked, Replaces, Run}
-use Rattle.tf_manifest.specs.Table.{Shown, Table, shown}
+use Rattle.tf_registry.specs.Run.{IsMergeOf, IsPicked, Replaces, Run}
+use Rattle.tf_registry.specs.Table.{Shown, Table, shown}
 use Rattle.tf_manifest.specs.View.{View, tables_by, value_by}
 use Rattle.tf_rows.specs.Counts.{Counted}
 use Rattle.tf_rows.specs.Parts.{Entries, place_of, seen_rows}

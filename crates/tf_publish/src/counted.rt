@@ -1,8 +1,8 @@
 //! Sealed tables whose entries are counted.
-ghost use Rattle.std.specs.Prelude.{◌≡◌, ◌+◌, ◌-◌, ◌<◌, ◌≤◌, length, OnOk, OnErr, IfErr};
+ghost use Rattle.std.specs.Prelude.{◌≡◌, ◌+◌, ◌-◌, ◌<◌, ◌≤◌, length, OnOk, OnErr, IfOk, IfErr};
 ghost use Rattle.tf_rows.specs.Counts.{IsCounted, PushesMore, all_references};
 ghost use Rattle.tf_rows.specs.SealedRow.{PushesIn, entries_of_sealed, kind_of_sealed};
-ghost use Rattle.tf_manifest.specs.Install.{IfNoMemory, OnFull, OnStale};
+ghost use Rattle.tf_registry.specs.Install.{IfNoMemory, OnFull, OnStale};
 ghost use Rattle.tf_manifest.specs.Jobs.{InstallsIn, StandsIn, output_of};
 ghost use Rattle.tf_manifest.specs.Registries.{AreShelves};
 ghost use Rattle.tf_manifest.specs.View.{content_in, no_tables, tables_by};
@@ -13,8 +13,9 @@ use crate::in_front::push_in_front;
 use std::alloc::Allocator;
 use std::marker::Model;
 use std::sync::Wait;
-use tf_manifest::{Manifest, Merged, Naming, Pushes, Registries, Uninstalled};
+use tf_manifest::{Manifest, Merged, Registries};
 use tf_records::Refusal;
+use tf_registry::{Naming, Pushes, Uninstalled};
 use tf_rows::SealedRow;
 
 /// The sealed tables of all rows, with how many entries of mutable tables were sealed, and how many all tables that were
@@ -23,13 +24,13 @@ use tf_rows::SealedRow;
 /// Merges of the tables that stand in rows may push the entries of each once for each level above its own. Those together
 /// with what is held are at most 21 times what was sealed.
 #[derive(Drop)]
-pub(crate) struct CountedTables<'r, A: Allocator, N: Naming> {
-    manifest: Manifest<'r, A, N>,
+pub(crate) struct CountedTables<A: Allocator, N: Naming> {
+    manifest: Manifest<A, N>,
     sealed: u128,
     held: u128,
 }
 
-impl<'r, A: Allocator, N: Naming> Model for CountedTables<'r, A, N> {
+impl<A: Allocator, N: Naming> Model for CountedTables<A, N> {
     ghost use Rattle.tf_rows.specs.Counts.{Counted, IsCounted};
 
     ghost Value = { Counted };
@@ -40,7 +41,7 @@ impl<'r, A: Allocator, N: Naming> Model for CountedTables<'r, A, N> {
 }
 
 /// Counts tables that were pushed, but that no row has.
-fn count_lost<'r, A: Allocator, N: Naming>(manifest: &mut Manifest<'r, A, N>, pushes: Pushes)
+fn count_lost<A: Allocator, N: Naming>(manifest: &mut Manifest<A, N>, pushes: Pushes)
     requires { manifest.old.pushed.count ≤ pushes.count }
     ensures { manifest.new ≡ record manifest.old { pushed = pushes } }
 {
@@ -49,42 +50,10 @@ fn count_lost<'r, A: Allocator, N: Naming>(manifest: &mut Manifest<'r, A, N>, pu
     manifest.pushes = pushes;
 }
 
-impl<'r, A: Allocator, N: Naming> CountedTables<'r, A, N> {
-    /// No tables, and nothing counted. It takes no memory.
-    pub(crate) fn new(registries: &'r Registries<A>) -> CountedTables<'r, A, N>
-        requires { AreShelves N.shelf registries.now }
-        ensures { result ≡ record { tables = no_tables registries.now.limit; sealed = 0; held = 0 } }
-    {
-        CountedTables {
-            manifest: Manifest::new(registries),
-            sealed: 0,
-            held: 0,
-        }
-    }
-
-    /// A copy, by one pass over the references. It takes no memory.
-    pub(crate) fn again(&self) -> CountedTables<'r, A, N>
-        ensures { result ≡ self.now }
-    {
-        CountedTables {
-            manifest: self.manifest.again(),
-            sealed: self.sealed,
-            held: self.held,
-        }
-    }
-
-    /// Makes these tables and counts those of `other`, by one pass over the references in use. It takes no memory.
-    pub(crate) fn copy_from(&mut self, other: &CountedTables<'r, A, N>)
-        ensures { self.new ≡ other.now }
-    {
-        self.manifest.copy_from(&other.manifest);
-        self.sealed = other.sealed;
-        self.held = other.held;
-    }
-
+impl<A: Allocator, N: Naming> CountedTables<A, N> {
     /// The tables.
     #[inline]
-    pub(crate) fn manifest(&self) -> &Manifest<'r, A, N>
+    pub(crate) fn manifest(&self) -> &Manifest<A, N>
         ensures { result.now ≡ self.now.tables }
     {
         &self.manifest
@@ -110,7 +79,7 @@ impl<'r, A: Allocator, N: Naming> CountedTables<'r, A, N> {
 
     /// Counts what was pushed onto a copy that stands nowhere yet: its tables as pushed, and their entries both as sealed
     /// and as held. It takes no memory.
-    pub(crate) fn count_pushed(&mut self, copy: &CountedTables<'r, A, N>)
+    pub(crate) fn count_pushed(&mut self, copy: &CountedTables<A, N>)
         requires { PushesMore self.old copy.now }
         ensures { self.new ≡ record { tables = record self.old.tables { pushed = copy.now.tables.pushed }; sealed = self.old.sealed + (copy.now.held - self.old.held); held = copy.now.held } }
     {
@@ -120,11 +89,37 @@ impl<'r, A: Allocator, N: Naming> CountedTables<'r, A, N> {
     }
 }
 
-impl<'r, A: Allocator + Clone, N: Naming> CountedTables<'r, A, N> {
+impl<A: Allocator + Clone, N: Naming> CountedTables<A, N> {
+    /// No tables, and nothing counted. It takes memory as `Manifest::new` does. The only refusal is `NoMemory`.
+    pub(crate) fn new(registries: &Registries<A>, alloc: A) -> Result<CountedTables<A, N>, Refusal>
+        requires { AreShelves N.shelf registries.now }
+        ensures none { IfOk result (λ counted. counted ≡ record { tables = no_tables registries.now.limit; sealed = 0; held = 0 }) }
+        ensures refusal { IfErr result (λ refusal. refusal ≡ Refusal.NoMemory) }
+    {
+        Ok(CountedTables {
+            manifest: Manifest::new(registries, alloc)?,
+            sealed: 0,
+            held: 0,
+        })
+    }
+
+    /// A copy, by one more owner for each table. It takes memory as `Manifest::again` does. The only refusal is `NoMemory`.
+    pub(crate) fn again(&self, alloc: A) -> Result<CountedTables<A, N>, Refusal>
+        ensures copy { IfOk result (λ copy. copy ≡ self.now) }
+        ensures refusal { IfErr result (λ refusal. refusal ≡ Refusal.NoMemory) }
+    {
+        Ok(CountedTables {
+            manifest: self.manifest.again(alloc)?,
+            sealed: self.sealed,
+            held: self.held,
+        })
+    }
+
     /// Pushes a sealed table and puts it in front of the tables of its row, as `push_in_front` does.
     pub(crate) fn push_in_front<R: Wait>(
         &mut self,
         rt: &R,
+        alloc: A,
         sealed: SealedRow<A>,
     ) -> Result<(), Refusal>
         requires room { length (tables_by self.old.tables (kind_of_sealed sealed)) < 64 }
@@ -139,7 +134,7 @@ impl<'r, A: Allocator + Clone, N: Naming> CountedTables<'r, A, N> {
         // Only the count tells that the limit isn't above the greatest.
         let _count = self.manifest.pushed();
         let entries = sealed.entries();
-        match push_in_front(rt, &mut self.manifest, sealed) {
+        match push_in_front(rt, &mut self.manifest, alloc, sealed) {
             Ok(()) => {
                 self.sealed += entries as u128;
                 self.held += entries as u128;
@@ -153,20 +148,20 @@ impl<'r, A: Allocator + Clone, N: Naming> CountedTables<'r, A, N> {
     pub(crate) fn install<R: Wait>(
         &mut self,
         rt: &R,
-        merged: Merged<'r, A, N>,
-    ) -> Result<(), Uninstalled<Merged<'r, A, N>>>
-        ensures installs { OnOk result (InstallsIn self.old.tables merged.entry self.new.tables) }
+        merged: Merged<A, N>,
+    ) -> Result<(), Uninstalled<Merged<A, N>>>
+        ensures installs { OnOk result (InstallsIn self.old.tables merged self.new.tables) }
         ensures content { (row : Row) (key : Key) → content_in self.new.tables row key ≡ content_in self.old.tables row key }
         ensures room { OnOk result (self.old.tables.pushed.count < self.old.tables.pushed.limit) }
-        ensures held { OnOk result (self.new.held ≡ self.old.held + length (output_of merged.entry).table.rows) }
+        ensures held { OnOk result (self.new.held ≡ self.old.held + length (output_of merged).table.rows) }
         ensures sealed { self.new.sealed ≡ self.old.sealed }
         ensures few { OnOk result (all_references self.new.tables + 1 ≡ all_references self.old.tables) }
         ensures more { PushesMore self.old self.new }
         ensures err { OnErr result (self.new ≡ self.old) }
-        ensures stale { IfErr result (λ e. OnStale e (StandsIn self.old.tables merged.entry → ⊥)) }
-        ensures full { IfErr result (λ e. OnFull e (StandsIn self.old.tables merged.entry × (self.old.tables.pushed.count ≡ self.old.tables.pushed.limit))) }
-        ensures no_memory { IfErr result (λ e. IfNoMemory e (λ m. StandsIn self.old.tables merged.entry × (self.old.tables.pushed.count < self.old.tables.pushed.limit))) }
-        ensures back { IfErr result (λ e. IfNoMemory e (λ m. m ≡ merged.entry)) }
+        ensures stale { IfErr result (λ e. OnStale e (StandsIn self.old.tables merged → ⊥)) }
+        ensures full { IfErr result (λ e. OnFull e (StandsIn self.old.tables merged × (self.old.tables.pushed.count ≡ self.old.tables.pushed.limit))) }
+        ensures no_memory { IfErr result (λ e. IfNoMemory e (λ m. StandsIn self.old.tables merged × (self.old.tables.pushed.count < self.old.tables.pushed.limit))) }
+        ensures back { IfErr result (λ e. IfNoMemory e (λ m. m ≡ merged)) }
     {
         // Only the count tells that the limit isn't above the greatest.
         let _count = self.manifest.pushed();

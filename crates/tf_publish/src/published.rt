@@ -1,7 +1,7 @@
 //! The sealed tables that publishes left, and those that one prepares.
-ghost use Rattle.std.specs.Prelude.{◌≡◌, ◌+◌, ◌-◌, ◌<◌, ◌≤◌, ◌==◌, length, OnOk, OnErr, IfErr, if◌then◌else◌};
+ghost use Rattle.std.specs.Prelude.{◌≡◌, ◌+◌, ◌-◌, ◌<◌, ◌≤◌, ◌==◌, length, OnOk, OnErr, IfOk, IfErr, if◌then◌else◌};
 ghost use Rattle.tf_rows.specs.Counts.{AreBounded, HasPublishes, IsReady, Loses, PushesMore, counted, nothing_sealed, settled, with_lost};
-ghost use Rattle.tf_manifest.specs.Install.{IfNoMemory, OnFull, OnStale};
+ghost use Rattle.tf_registry.specs.Install.{IfNoMemory, OnFull, OnStale};
 ghost use Rattle.tf_manifest.specs.Jobs.{InstallsIn, StandsIn, output_of};
 ghost use Rattle.tf_manifest.specs.Registries.{AreShelves};
 ghost use Rattle.tf_manifest.specs.View.{content_in};
@@ -12,17 +12,19 @@ use crate::counted::CountedTables;
 use std::alloc::Allocator;
 use std::marker::Model;
 use std::sync::Wait;
-use tf_manifest::{Manifest, Merged, Naming, Registries, Uninstalled};
+use tf_manifest::{Manifest, Merged, Registries};
+use tf_records::Refusal;
+use tf_registry::{Naming, Uninstalled};
 use tf_rows::Counts;
 
 /// The sealed tables of all rows, and what was counted of publishes and installs.
 #[derive(Drop)]
-pub struct Published<'r, A: Allocator, N: Naming> {
-    tables: CountedTables<'r, A, N>,
+pub struct Published<A: Allocator, N: Naming> {
+    tables: CountedTables<A, N>,
     publishes: u64,
 }
 
-impl<'r, A: Allocator, N: Naming> Model for Published<'r, A, N> {
+impl<A: Allocator, N: Naming> Model for Published<A, N> {
     ghost use Rattle.tf_rows.specs.Counts.{HasPublishes, Sealed};
 
     ghost Value = { Sealed };
@@ -34,11 +36,11 @@ impl<'r, A: Allocator, N: Naming> Model for Published<'r, A, N> {
 
 /// Sealed tables that stand ready to be put in place by `Forest::settle`. All that was pushed for them is counted.
 #[derive(Drop)]
-pub struct Prepared<'r, A: Allocator, N: Naming> {
-    tables: CountedTables<'r, A, N>,
+pub struct Prepared<A: Allocator, N: Naming> {
+    tables: CountedTables<A, N>,
 }
 
-impl<'r, A: Allocator, N: Naming> Model for Prepared<'r, A, N> {
+impl<A: Allocator, N: Naming> Model for Prepared<A, N> {
     ghost use Rattle.tf_rows.specs.Counts.{Counted};
 
     ghost Value = { Counted };
@@ -46,17 +48,17 @@ impl<'r, A: Allocator, N: Naming> Model for Prepared<'r, A, N> {
     ghost view = { λ p. p.tables };
 }
 
-impl<'r, A: Allocator, N: Naming> Prepared<'r, A, N> {
+impl<A: Allocator, N: Naming> Prepared<A, N> {
     /// Tables that are ready.
-    pub(crate) fn new(tables: CountedTables<'r, A, N>) -> Prepared<'r, A, N>
-        ensures { result ≡ tables.entry }
+    pub(crate) fn new(tables: CountedTables<A, N>) -> Prepared<A, N>
+        ensures { result ≡ tables }
     {
         Prepared { tables }
     }
 
     /// The tables, for whoever publishes them before they are put in place.
     #[inline]
-    pub fn manifest(&self) -> &Manifest<'r, A, N>
+    pub fn manifest(&self) -> &Manifest<A, N>
         ensures { result.now ≡ self.now.tables }
     {
         self.tables.manifest()
@@ -75,21 +77,10 @@ fn publishes_after(publishes: u64, pushed: u32) -> u64
     }
 }
 
-impl<'r, A: Allocator, N: Naming> Published<'r, A, N> {
-    /// No tables, and nothing counted. It takes no memory.
-    pub(crate) fn new(registries: &'r Registries<A>) -> Published<'r, A, N>
-        requires { AreShelves N.shelf registries.now }
-        ensures { result ≡ nothing_sealed registries.now.limit }
-    {
-        Published {
-            tables: CountedTables::new(registries),
-            publishes: 0,
-        }
-    }
-
+impl<A: Allocator, N: Naming> Published<A, N> {
     /// The tables.
     #[inline]
-    pub fn manifest(&self) -> &Manifest<'r, A, N>
+    pub fn manifest(&self) -> &Manifest<A, N>
         ensures { result.now ≡ self.now.tables }
     {
         self.tables.manifest()
@@ -107,13 +98,6 @@ impl<'r, A: Allocator, N: Naming> Published<'r, A, N> {
         }
     }
 
-    /// A copy of the tables with what was counted of entries, by one pass over the references. It takes no memory.
-    pub(crate) fn copy(&self) -> CountedTables<'r, A, N>
-        ensures { result ≡ counted self.now }
-    {
-        self.tables.again()
-    }
-
     /// How many publishes pushed a table.
     pub(crate) fn publishes(&self) -> u64
         ensures { HasPublishes self.now.tables self.now.counts.publishes }
@@ -122,7 +106,7 @@ impl<'r, A: Allocator, N: Naming> Published<'r, A, N> {
     }
 
     /// Counts what was pushed onto a copy of the tables.
-    pub(crate) fn count_pushed(&mut self, copy: &CountedTables<'r, A, N>)
+    pub(crate) fn count_pushed(&mut self, copy: &CountedTables<A, N>)
         requires more { PushesMore (counted self.old) copy.now }
         requires most { copy.now.tables.pushed.count ≤ self.old.tables.pushed.count + 42 }
         ensures pushed { self.new.tables.pushed ≡ copy.now.tables.pushed }
@@ -136,31 +120,52 @@ impl<'r, A: Allocator, N: Naming> Published<'r, A, N> {
         self.tables.count_pushed(copy);
     }
 
-    /// Puts prepared tables in place of these, by one pass over the references. It takes no memory.
-    pub fn settle(&mut self, prepared: &Prepared<'r, A, N>)
-        requires { IsReady self.old prepared.now }
-        ensures { self.new ≡ settled prepared.now self.old }
+    /// Puts prepared tables in place of these, and lets go of these. It takes no memory.
+    pub fn settle(&mut self, prepared: Prepared<A, N>)
+        requires { IsReady self.old prepared }
+        ensures { self.new ≡ settled prepared self.old }
     {
-        self.tables.copy_from(&prepared.tables);
+        self.tables = prepared.tables;
     }
 }
 
-impl<'r, A: Allocator + Clone, N: Naming> Published<'r, A, N> {
+impl<A: Allocator + Clone, N: Naming> Published<A, N> {
+    /// No tables, and nothing counted. It takes memory as `Manifest::new` does. The only refusal is `NoMemory`.
+    pub(crate) fn new(registries: &Registries<A>, alloc: A) -> Result<Published<A, N>, Refusal>
+        requires { AreShelves N.shelf registries.now }
+        ensures none { IfOk result (λ published. published ≡ nothing_sealed registries.now.limit) }
+        ensures refusal { IfErr result (λ refusal. refusal ≡ Refusal.NoMemory) }
+    {
+        Ok(Published {
+            tables: CountedTables::new(registries, alloc)?,
+            publishes: 0,
+        })
+    }
+
+    /// A copy of the tables with what was counted of entries, by one more owner for each table. It takes memory as
+    /// `Manifest::again` does. The only refusal is `NoMemory`.
+    pub(crate) fn copy(&self, alloc: A) -> Result<CountedTables<A, N>, Refusal>
+        ensures copy { IfOk result (λ copy. copy ≡ counted self.now) }
+        ensures refusal { IfErr result (λ refusal. refusal ≡ Refusal.NoMemory) }
+    {
+        self.tables.again(alloc)
+    }
+
     /// Puts a merged table in the place of its run, as `Manifest::install` does, and counts its entries as held.
     pub fn install<R: Wait>(
         &mut self,
         rt: &R,
-        merged: Merged<'r, A, N>,
-    ) -> Result<(), Uninstalled<Merged<'r, A, N>>>
-        ensures installs { OnOk result (InstallsIn self.old.tables merged.entry self.new.tables) }
+        merged: Merged<A, N>,
+    ) -> Result<(), Uninstalled<Merged<A, N>>>
+        ensures installs { OnOk result (InstallsIn self.old.tables merged self.new.tables) }
         ensures content { (row : Row) (key : Key) → content_in self.new.tables row key ≡ content_in self.old.tables row key }
         ensures room { OnOk result (self.old.tables.pushed.count < self.old.tables.pushed.limit) }
-        ensures counts { OnOk result (self.new.counts ≡ record self.old.counts { rows_held = self.old.counts.rows_held + length (output_of merged.entry).table.rows }) }
+        ensures counts { OnOk result (self.new.counts ≡ record self.old.counts { rows_held = self.old.counts.rows_held + length (output_of merged).table.rows }) }
         ensures err { OnErr result (self.new ≡ self.old) }
-        ensures stale { IfErr result (λ e. OnStale e (StandsIn self.old.tables merged.entry → ⊥)) }
-        ensures full { IfErr result (λ e. OnFull e (StandsIn self.old.tables merged.entry × (self.old.tables.pushed.count ≡ self.old.tables.pushed.limit))) }
-        ensures no_memory { IfErr result (λ e. IfNoMemory e (λ m. StandsIn self.old.tables merged.entry × (self.old.tables.pushed.count < self.old.tables.pushed.limit))) }
-        ensures back { IfErr result (λ e. IfNoMemory e (λ m. m ≡ merged.entry)) }
+        ensures stale { IfErr result (λ e. OnStale e (StandsIn self.old.tables merged → ⊥)) }
+        ensures full { IfErr result (λ e. OnFull e (StandsIn self.old.tables merged × (self.old.tables.pushed.count ≡ self.old.tables.pushed.limit))) }
+        ensures no_memory { IfErr result (λ e. IfNoMemory e (λ m. StandsIn self.old.tables merged × (self.old.tables.pushed.count < self.old.tables.pushed.limit))) }
+        ensures back { IfErr result (λ e. IfNoMemory e (λ m. m ≡ merged)) }
     {
         self.tables.install(rt, merged)
     }

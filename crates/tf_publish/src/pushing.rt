@@ -1,5 +1,8 @@
 //! Mutable tables pushed row by row: sealed, and put in front of the sealed tables of their rows.
-ghost use Rattle.std.specs.Prelude.{◌≡◌, ◌+◌, ◌<◌, ◌≤◌, length, IfErr, IsOk, OnErr, OnOk};
+ghost use Rattle.std.specs.Prelude.{◌≡◌, ◌+◌, ◌<◌, ◌≤◌, length, IfErr, IfOk, IsOk, IsSome, OnErr, OnOk, Ok, Some};
+ghost use Rattle.std.specs.Result.{is_ok};
+ghost use Rattle.tf_registry.specs.Install.{OnFull, OnStale};
+ghost use Rattle.tf_manifest.specs.Jobs.{IsPickedFrom};
 ghost use Rattle.tf_rows.specs.Counts.{PushesMore, all_references};
 ghost use Rattle.tf_rows.specs.Parts.{parts_of, place_of, value_of_part};
 ghost use Rattle.tf_publish.specs.Publish.{MakesRoom, PublishesRow, entries_waiting, needed_for, tables_needed};
@@ -10,20 +13,79 @@ ghost use Rattle.tf_manifest.specs.declared.row.Row.{Row};
 ghost use Rattle.tf_table.specs.declared.key.Key.{Key};
 
 use crate::counted::CountedTables;
-use std::alloc::Allocator;
+use std::alloc::{AllocError, Allocator};
 use std::sync::Wait;
-use tf_manifest::{Manifest, Naming, Row, Uninstalled};
+use tf_manifest::{Job, Manifest, Row};
 use tf_records::Refusal;
+use tf_registry::{Naming, Uninstalled};
 use tf_rows::SealRows;
+
+/// The job of a row that has one.
+fn found<J: Drop>(answer: Result<Option<J>, AllocError>) -> Result<J, Refusal>
+    requires { IfOk answer IsSome }
+    ensures job { IfOk result (λ job. answer ≡ Ok (Some job)) }
+    ensures refusal { IfErr result (λ refusal. refusal ≡ Refusal.NoMemory) }
+{
+    match answer {
+        Ok(Some(job)) => Ok(job),
+        Ok(None) => unreachable!(),
+        Err(_) => Err(Refusal::NoMemory),
+    }
+}
+
+/// The answer of an install that can lack memory, and for no other reason be refused. What it hands back is let go.
+fn installed<M: Drop>(answer: Result<(), Uninstalled<M>>) -> Result<(), Refusal>
+    requires stale { IfErr answer (λ refused. OnStale refused ⊥) }
+    requires full { IfErr answer (λ refused. OnFull refused ⊥) }
+    ensures same { is_ok result ≡ is_ok answer }
+    ensures refusal { IfErr result (λ refusal. refusal ≡ Refusal.NoMemory) }
+{
+    match answer {
+        Ok(()) => Ok(()),
+        Err(Uninstalled::NoMemory(back)) => {
+            drop(back);
+            Err(Refusal::NoMemory)
+        }
+        Err(Uninstalled::Stale) => unreachable!(),
+        Err(Uninstalled::RegistryFull) => unreachable!(),
+    }
+}
+
+/// Merges the run of a full row that is to be merged next, in place.
+///
+/// The only refusal is `NoMemory`, and it changes nothing.
+fn merge_in_place<R: Wait, A: Allocator + Copy, N: Naming>(
+    rt: &R,
+    row: Row,
+    job: &Job<A, N>,
+    alloc: A,
+    next: &mut CountedTables<A, N>,
+) -> Result<(), Refusal>
+    requires picked { IsPickedFrom next.old.tables row job.now }
+    requires full { references_in next.old.tables row ≡ 64 }
+    requires limit { next.old.tables.pushed.count < next.old.tables.pushed.limit }
+    ensures room { OnOk result (MakesRoom row next.old.tables next.new.tables) }
+    ensures place { OnOk result (MakesPlaceIn row next.old next.new) }
+    ensures few { OnOk result (references_in next.new.tables row < 64) }
+    ensures sealed { next.new.sealed ≡ next.old.sealed }
+    ensures more { PushesMore next.old next.new }
+    ensures err { OnErr result (next.new ≡ next.old) }
+    ensures refusal { IfErr result (λ refusal. refusal ≡ Refusal.NoMemory) }
+{
+    match job.merge(alloc) {
+        Ok(merged) => installed(next.install(rt, merged)),
+        Err(refusal) => Err(refusal),
+    }
+}
 
 /// Makes room for a table in a row: where it is full, its run that is to be merged next is merged in place.
 ///
 /// The only refusal is `NoMemory`, and it changes nothing.
-fn make_room<'r, R: Wait, A: Allocator + Copy, N: Naming>(
+fn make_room<R: Wait, A: Allocator + Copy, N: Naming>(
     rt: &R,
     row: Row,
     alloc: A,
-    next: &mut CountedTables<'r, A, N>,
+    next: &mut CountedTables<A, N>,
 ) -> Result<(), Refusal>
     requires { references_in next.old.tables row ≡ 64 → next.old.tables.pushed.count < next.old.tables.pushed.limit }
     ensures room { OnOk result (MakesRoom row next.old.tables next.new.tables) }
@@ -38,33 +100,24 @@ fn make_room<'r, R: Wait, A: Allocator + Copy, N: Naming>(
     if manifest.references(row) < 64 {
         return Ok(());
     }
-    let Some(job) = manifest.pick(row) else {
-        unreachable!()
-    };
-    let merged = match job.merge(alloc) {
-        Ok(merged) => merged,
+    let job = match found(manifest.pick(row)) {
+        Ok(job) => job,
         Err(refusal) => return Err(refusal),
     };
-    match next.install(rt, merged) {
-        Ok(()) => Ok(()),
-        Err(Uninstalled::NoMemory(merged)) => {
-            drop(merged);
-            Err(Refusal::NoMemory)
-        }
-        Err(Uninstalled::Stale) => unreachable!(),
-        Err(Uninstalled::RegistryFull) => unreachable!(),
-    }
+    let answer = merge_in_place(rt, row, &job, alloc, next);
+    drop(job);
+    answer
 }
 
 /// Seals a row's mutable table, if it has an entry, and puts it in front of the row's sealed tables.
 ///
 /// The only refusal is `NoMemory`. The push that made room may have been made by then.
-fn push_row<'r, R: Wait, F: SealRows<A>, A: Allocator + Copy, N: Naming>(
+fn push_row<R: Wait, F: SealRows<A>, A: Allocator + Copy, N: Naming>(
     rt: &R,
     fresh: &mut F,
     row: Row,
     alloc: A,
-    next: &mut CountedTables<'r, A, N>,
+    next: &mut CountedTables<A, N>,
 ) -> Result<(), Refusal>
     requires { next.old.tables.pushed.count + needed_for (F.entries fresh.old row) (references_in next.old.tables row) ≤ next.old.tables.pushed.limit }
     ensures publishes { OnOk result (PublishesRow (F.entries fresh.old) row next.old.tables next.new.tables) }
@@ -86,7 +139,7 @@ fn push_row<'r, R: Wait, F: SealRows<A>, A: Allocator + Copy, N: Naming>(
         Err(refusal) => return Err(refusal),
     };
     match make_room(rt, row, alloc, next) {
-        Ok(()) => next.push_in_front(rt, sealed),
+        Ok(()) => next.push_in_front(rt, alloc, sealed),
         Err(refusal) => Err(refusal),
     }
 }
@@ -100,9 +153,9 @@ fn row_at(number: usize) -> Row
 }
 
 /// How many tables a row pushes: none where its mutable table has no entry, two where the row is full, else one.
-fn needed_for<'r, F: SealRows<A>, A: Allocator + Copy, N: Naming>(
+fn needed_for<F: SealRows<A>, A: Allocator + Copy, N: Naming>(
     fresh: &F,
-    manifest: &Manifest<'r, A, N>,
+    manifest: &Manifest<A, N>,
     row: Row,
 ) -> u32
     ensures needed { result ≡ needed_for (F.entries fresh.now row) (references_in manifest.now row) }
@@ -118,9 +171,9 @@ fn needed_for<'r, F: SealRows<A>, A: Allocator + Copy, N: Naming>(
 }
 
 /// How many tables all rows push.
-pub(crate) fn tables_needed<'r, F: SealRows<A>, A: Allocator + Copy, N: Naming>(
+pub(crate) fn tables_needed<F: SealRows<A>, A: Allocator + Copy, N: Naming>(
     fresh: &F,
-    manifest: &Manifest<'r, A, N>,
+    manifest: &Manifest<A, N>,
 ) -> u32
     ensures { result ≡ tables_needed (F.entries fresh.now) manifest.now }
 {
@@ -135,11 +188,11 @@ pub(crate) fn tables_needed<'r, F: SealRows<A>, A: Allocator + Copy, N: Naming>(
 ///
 /// The only refusal is `NoMemory`, and there is none where no mutable table has an entry. The mutable tables keep their
 /// entries.
-pub(crate) fn push_rows<'r, R: Wait, F: SealRows<A>, A: Allocator + Copy, N: Naming>(
+pub(crate) fn push_rows<R: Wait, F: SealRows<A>, A: Allocator + Copy, N: Naming>(
     rt: &R,
     fresh: &mut F,
     alloc: A,
-    next: &mut CountedTables<'r, A, N>,
+    next: &mut CountedTables<A, N>,
 ) -> Result<(), Refusal>
     requires { next.old.tables.pushed.count + tables_needed (F.entries fresh.old) next.old.tables ≤ next.old.tables.pushed.limit }
     ensures content { OnOk result ((r : Row) (key : Key) → content_in next.new.tables r key ≡ value_of_part (parts_of (F.entries fresh.old) next.old.tables r) key) }

@@ -1,5 +1,5 @@
 //! Mutable tables in front of the sealed ones of a manifest.
-ghost use Rattle.std.specs.Prelude.{◌≡◌, ◌∷◌, refl};
+ghost use Rattle.std.specs.Prelude.{◌≡◌, ◌∷◌, refl, IfErr, IfOk};
 ghost use Rattle.tf_table.specs.Content.{entry_of};
 ghost use Rattle.tf_table.specs.First.{IsFirstAbove};
 ghost use Rattle.tf_manifest.specs.Registries.{AreShelves};
@@ -9,33 +9,20 @@ ghost use Rattle.tf_rows.specs.Parts.{parts_of, sealed_in};
 
 use crate::Published;
 use std::alloc::Allocator;
-use tf_manifest::{Naming, Registries, Row, Value};
+use tf_manifest::{Registries, Row, Value};
 use tf_records::Refusal;
+use tf_registry::Naming;
 use tf_rows::{AllRows, Before, EmptyRows, MutableRows, RowSet};
 use tf_table::Key;
 
 /// Rows: what a row's mutable table has at a key comes before what its sealed tables have there.
 #[derive(Drop)]
-pub struct Rows<'r, F: MutableRows + Drop, A: Allocator, N: Naming> {
+pub struct Rows<F: MutableRows + Drop, A: Allocator, N: Naming> {
     pub fresh: F,
-    pub published: Published<'r, A, N>,
+    pub published: Published<A, N>,
 }
 
-impl<'r, F: MutableRows + Drop, A: Allocator, N: Naming> Rows<'r, F, A, N> {
-    /// Mutable tables without entries, which grow on `alloc`, and no sealed ones, with nothing counted. It takes no memory.
-    pub fn new(alloc: A, registries: &'r Registries<A>) -> Rows<'r, F, A, N>
-    where
-        F: EmptyRows<A>,
-        requires { AreShelves N.shelf registries.now }
-        ensures empty { AreEmpty (parts_of (F.entries result.fresh) result.published.tables) }
-        ensures sealed { result.published ≡ nothing_sealed registries.now.limit }
-    {
-        Rows {
-            fresh: F::empty(alloc),
-            published: Published::new(registries),
-        }
-    }
-
+impl<F: MutableRows + Drop, A: Allocator, N: Naming> Rows<F, A, N> {
     /// The first key of a row above a given one that has an entry, a value or a tombstone, in the mutable table or a
     /// sealed one.
     fn first_above(&self, row: Row, key: &Key) -> Option<Key>
@@ -48,7 +35,24 @@ impl<'r, F: MutableRows + Drop, A: Allocator, N: Naming> Rows<'r, F, A, N> {
     }
 }
 
-impl<'r, F: MutableRows + Drop, A: Allocator, N: Naming> RowSet for Rows<'r, F, A, N> {
+impl<F: EmptyRows<A> + Drop, A: Allocator + Copy, N: Naming> Rows<F, A, N> {
+    /// Mutable tables without entries, which grow on `alloc`, and no sealed ones, with nothing counted. It takes memory as
+    /// `Manifest::new` does. The only refusal is `NoMemory`.
+    pub fn new(alloc: A, registries: &Registries<A>) -> Result<Rows<F, A, N>, Refusal>
+        requires { AreShelves N.shelf registries.now }
+        ensures empty { IfOk result (λ rows. AreEmpty (parts_of (F.entries rows.fresh) rows.published.tables)) }
+        ensures sealed { IfOk result (λ rows. rows.published ≡ nothing_sealed registries.now.limit) }
+        ensures refusal { IfErr result (λ refusal. refusal ≡ Refusal.NoMemory) }
+    {
+        let published = Published::new(registries, alloc)?;
+        Ok(Rows {
+            fresh: F::empty(alloc),
+            published,
+        })
+    }
+}
+
+impl<F: MutableRows + Drop, A: Allocator, N: Naming> RowSet for Rows<F, A, N> {
     ghost has_row = { has_each };
 
     ghost fits = { fits_row };
@@ -87,7 +91,7 @@ impl<'r, F: MutableRows + Drop, A: Allocator, N: Naming> RowSet for Rows<'r, F, 
     }
 }
 
-impl<'r, F: MutableRows + Drop, A: Allocator, N: Naming> AllRows for Rows<'r, F, A, N> {
+impl<F: MutableRows + Drop, A: Allocator, N: Naming> AllRows for Rows<F, A, N> {
     ghost has_all = { λ row. refl };
 
     ghost fits_kind = { λ row value fits. fits };

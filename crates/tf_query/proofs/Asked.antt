@@ -6,9 +6,9 @@ use Rattle.std.specs.Option.{option_map}
 use Rattle.tf_manifest.specs.declared.kind.UnitRow.TheVariants as unit
 use Rattle.tf_manifest.specs.declared.kind.Kind.TheVariants as kind
 use Rattle.tf_manifest.specs.declared.kinds.Stored.{Stored}
-use Rattle.tf_manifest.specs.Row.{content_at}
+use Rattle.tf_registry.specs.Row.{content_at}
 use Rattle.tf_manifest.specs.Rows.{key_of}
-use Rattle.tf_manifest.specs.Table.{Shown}
+use Rattle.tf_registry.specs.Table.{Shown}
 use Rattle.tf_manifest.specs.View.{View, tables_by}
 use Rattle.tf_records.specs.declared.account.Account.{Account}
 use Rattle.tf_records.specs.declared.account_filter.AccountFilter.{AccountFilter}

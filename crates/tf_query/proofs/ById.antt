@@ -20,7 +20,7 @@ use Rattle.tf_manifest.specs.declared.value.IdStamp.TheVariants as id_stamp
 use Rattle.tf_manifest.specs.declared.value.Value.{Value}
 use Rattle.tf_manifest.specs.declared.value.Value.TheVariants as value
 use Rattle.tf_manifest.specs.Kinds.{id_value}
-use Rattle.tf_manifest.specs.Row.{content_at}
+use Rattle.tf_registry.specs.Row.{content_at}
 use Rattle.tf_manifest.specs.Rows.{Pair, failed_pair, key_of}
 use Rattle.tf_manifest.specs.View.{ShowsJournal, View, tables_by}
 use Rattle.tf_query.specs.Matches.{AreDated, account_timestamp, record_at, transfer_timestamp}

@@ -63,10 +63,10 @@ silent_next n lists rows part next span s h kept outside silent = λ key inside.
     ∙ outside_absent span key rows h (outside key.timestamp inside)
 
 -- what is read of a list of tables at a place
-pub rows_there : {T S R : Type 0} (shown : T → S) (rows_of : S → R) (tables : List T) (place : ℕ) (table : T) (rows : R) → place < length tables → table ≡ get_or tables place table → rows ≡ rows_of (shown table) → slice_get (map rows_of (map shown tables)) place ≡ Some rows
-rows_there shown rows_of tables place table rows l is same =
-    slice_get-map rows_of (map shown tables) place
-    ∙ ap (option_map rows_of) (slice_get-map shown tables place ∙ ap (option_map shown) (slice_get-get_or tables place table l ∙ ap Some (sym is)))
+pub rows_there : {S R : Type 0} (rows_of : S → R) (tables : List S) (place : ℕ) (table : S) (rows : R) → place < length tables → table ≡ get_or tables place table → rows ≡ rows_of table → slice_get (map rows_of tables) place ≡ Some rows
+rows_there rows_of tables place table rows l is same =
+    slice_get-map rows_of tables place
+    ∙ ap (option_map rows_of) (slice_get-get_or tables place table l ∙ ap Some (sym is))
     ∙ ap Some (sym same)
 
 module _ {V : Type 0} where

@@ -22,7 +22,7 @@ use Rattle.tf_manifest.specs.declared.row.Row.TheVariants as row
 use Rattle.tf_manifest.specs.declared.value.State.{State}
 use Rattle.tf_manifest.specs.declared.value.Value.{Value}
 use Rattle.tf_manifest.specs.declared.value.Value.TheVariants as value
-use Rattle.tf_manifest.specs.Row.{content_at}
+use Rattle.tf_registry.specs.Row.{content_at}
 use Rattle.tf_manifest.specs.Rows.{Pair, has_history, history_pairs, key_of, rows_of, state_of}
 use Rattle.tf_manifest.specs.Shows.{value_of}
 use Rattle.tf_manifest.specs.View.{ShowsJournal, View, tables_by}

@@ -14,7 +14,7 @@ use Rattle.tf_manifest.specs.declared.kind.UnitRow.{UnitRow}
 use Rattle.tf_manifest.specs.declared.kind.UnitRow.TheVariants as unit
 use Rattle.tf_manifest.specs.declared.row.Row.TheVariants as row
 use Rattle.tf_manifest.specs.declared.value.Value.TheVariants as value
-use Rattle.tf_manifest.specs.Row.{content_at}
+use Rattle.tf_registry.specs.Row.{content_at}
 use Rattle.tf_manifest.specs.Rows.{account_index, key_of, transfer_index}
 use Rattle.tf_manifest.specs.View.{ShowsJournal, View, tables_by, value_by}
 use Rattle.tf_query.specs.Fields.{account_field, has_value, transfer_field}

@@ -19,3 +19,4 @@ pub mod Finding
 pub mod Ahead
 pub mod Summed
 pub mod Walking
+pub mod Versions

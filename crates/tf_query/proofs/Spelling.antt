@@ -11,7 +11,7 @@ use Rattle.tf_table.proofs.Keys.{exact_keys, keys_total}
 use Rattle.tf_manifest.specs.declared.row.Row.{Row}
 use Rattle.tf_manifest.specs.declared.row.Row.TheVariants as row
 use Rattle.tf_manifest.specs.Kinds.{kind_of}
-use Rattle.tf_manifest.specs.Row.{lists_of}
+use Rattle.tf_registry.specs.Row.{lists_of}
 use Rattle.tf_manifest.specs.Shows.{Lists, ListsRow}
 use Rattle.tf_manifest.specs.View.{View, content_in, tables_by, value_by}
 use Rattle.tf_query.specs.Version.{pairs_shown}

@@ -23,9 +23,9 @@ use Rattle.tf_manifest.specs.declared.kinds.Stored.{Stored}
 use Rattle.tf_manifest.specs.declared.row.Row.TheVariants as row
 use Rattle.tf_manifest.specs.declared.value.Value.{Value}
 use Rattle.tf_manifest.specs.declared.value.Value.TheVariants as value
-use Rattle.tf_manifest.specs.Row.{content_at}
+use Rattle.tf_registry.specs.Row.{content_at}
 use Rattle.tf_manifest.specs.Rows.{Pair, has_history, history_pairs, key_of}
-use Rattle.tf_manifest.specs.Table.{Shown}
+use Rattle.tf_registry.specs.Table.{Shown}
 use Rattle.tf_manifest.specs.View.{ShowsJournal, View, tables_by, value_by}
 use Rattle.tf_scan.specs.Sets.{is_among}
 use Rattle.tf_query.specs.Asked.{account_filter_at}

@@ -3,7 +3,7 @@ use Rattle.std.specs.Prelude.{ℕ, ◌==◌, ◌&&◌, Bool, is_some, if◌then�
 use Rattle.tf_records.specs.declared.account_filter.AccountFilter.{AccountFilter}
 use Rattle.tf_journal.specs.Filter.{asks_credits, asks_debits}
 use Rattle.tf_manifest.specs.declared.kind.Kind.TheVariants as kind
-use Rattle.tf_manifest.specs.Row.{content_at}
+use Rattle.tf_registry.specs.Row.{content_at}
 use Rattle.tf_manifest.specs.Rows.{key_of}
 use Rattle.tf_manifest.specs.View.{View, tables_by}
 use Rattle.tf_query.specs.Asked.{account_filter_at}

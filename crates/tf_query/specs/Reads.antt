@@ -15,7 +15,7 @@ use Rattle.tf_manifest.specs.declared.kinds.Stored.{Stored}
 use Rattle.tf_manifest.specs.declared.value.IdStamp.{IdStamp}
 use Rattle.tf_manifest.specs.declared.value.IdStamp.TheVariants as id_stamp
 use Rattle.tf_manifest.specs.declared.value.State.{State}
-use Rattle.tf_manifest.specs.Row.{content_at, lists_of}
+use Rattle.tf_registry.specs.Row.{content_at, lists_of}
 use Rattle.tf_manifest.specs.Rows.{key_of}
 use Rattle.tf_manifest.specs.View.{View, tables_by}
 

@@ -6,7 +6,7 @@ use Rattle.tf_table.specs.Content.{content_of}
 use Rattle.tf_manifest.specs.declared.kind.Kind.{Kind}
 use Rattle.tf_manifest.specs.declared.row.Row.{Row}
 use Rattle.tf_manifest.specs.Kinds.{kind_of}
-use Rattle.tf_manifest.specs.Row.{lists_of}
+use Rattle.tf_registry.specs.Row.{lists_of}
 use Rattle.tf_manifest.specs.Rows.{Pair}
 use Rattle.tf_manifest.specs.Shows.{journal_of}
 use Rattle.tf_manifest.specs.View.{View, ShowsJournal, tables_by, value_by}

@@ -2,13 +2,13 @@
 ghost use Rattle.std.specs.Prelude.{◌≡◌, ◌≤◌, length, map, take, MatchOption};
 ghost use Rattle.std.specs.Option.{option_and_then, option_copied};
 ghost use Rattle.tf_table.specs.Content.{entry_at, entry_of};
-ghost use Rattle.tf_manifest.specs.Reference.{shown_of};
-ghost use Rattle.tf_manifest.specs.Row.{lists_of};
+ghost use Rattle.tf_registry.specs.Row.{lists_of};
 ghost use Rattle.tf_manifest.specs.Rows.{key_of};
 
 use crate::reads::{AHEAD, key_of};
 use std::alloc::Allocator;
-use tf_manifest::{Naming, RowValue, TableRef};
+use tf_manifest::RowValue;
+use tf_registry::{Naming, TableRef};
 use tf_table::{Key, Probe, Sealed, take_turns};
 
 /// Where a key is expected: the place of a table among those of its row, and a place in it. What is found there says whether
@@ -39,7 +39,7 @@ impl Guess {
 
 /// The place of the newest table that may have a key, and a search in it.
 fn probe<'r, V: RowValue, A: Allocator, N: Naming>(
-    references: &[TableRef<'r, V, A, N>],
+    references: &'r [TableRef<V, A, N>],
     key: &Key,
 ) -> (usize, Probe<'r>) {
     for place in 0..references.len() {
@@ -53,7 +53,7 @@ fn probe<'r, V: RowValue, A: Allocator, N: Naming>(
 
 /// The places of the newest tables that may have the keys of these values, and searches in them, which have not begun.
 fn probes<'r, V: RowValue, A: Allocator, N: Naming>(
-    references: &[TableRef<'r, V, A, N>],
+    references: &'r [TableRef<V, A, N>],
     values: &[u128],
 ) -> ([usize; AHEAD], [Probe<'r>; AHEAD])
     requires { length values.now ≤ 16 }
@@ -70,7 +70,7 @@ fn probes<'r, V: RowValue, A: Allocator, N: Naming>(
 
 /// Where the keys of these values are expected, each in the place of its value. The searches for them take turns.
 fn guesses<V: RowValue, A: Allocator, N: Naming>(
-    references: &[TableRef<'_, V, A, N>],
+    references: &[TableRef<V, A, N>],
     values: &[u128],
 ) -> [Guess; AHEAD]
     requires { length values.now ≤ 16 }
@@ -108,11 +108,11 @@ fn entry_at<'r, V: RowValue, A: Allocator>(
 
 /// The entry of a key in the newest table that has it, as it is stored there. No entry is read.
 fn entry_in<'r, V: RowValue, A: Allocator, N: Naming>(
-    references: &[TableRef<'r, V, A, N>],
+    references: &'r [TableRef<V, A, N>],
     key: &Key,
     guess: Guess,
 ) -> Option<&'r Option<V>>
-    ensures { option_copied result ≡ entry_of key.now (lists_of (map shown_of references.now)) }
+    ensures { option_copied result ≡ entry_of key.now (lists_of references.now) }
 {
     for place in 0..references.len() {
         let table = references[place].table().table();
@@ -127,11 +127,11 @@ fn entry_in<'r, V: RowValue, A: Allocator, N: Naming>(
 ///
 /// No entry is read, so that many come from far memory at once when they are. The searches for the keys take turns.
 pub fn entries_of_values<'r, V: RowValue, A: Allocator, N: Naming>(
-    references: &[TableRef<'r, V, A, N>],
+    references: &'r [TableRef<V, A, N>],
     values: &[u128],
 ) -> [Option<&'r Option<V>>; AHEAD]
     requires { length values.now ≤ 16 }
-    ensures { map option_copied (take (length values.now) result) ≡ map (λ value. entry_of (key_of value 0) (lists_of (map shown_of references.now))) values.now }
+    ensures { map option_copied (take (length values.now) result) ≡ map (λ value. entry_of (key_of value 0) (lists_of references.now)) values.now }
 {
     let guesses = guesses(references, values);
     let mut found = [None; AHEAD];
@@ -143,21 +143,21 @@ pub fn entries_of_values<'r, V: RowValue, A: Allocator, N: Naming>(
 
 /// The entry at a timestamp, if there is one, as it is stored.
 fn entry_at_stamp<'r, V: RowValue, A: Allocator, N: Naming>(
-    references: &[TableRef<'r, V, A, N>],
+    references: &'r [TableRef<V, A, N>],
     stamp: Option<u64>,
 ) -> Option<&'r Option<V>>
-    ensures { option_copied result ≡ option_and_then (λ t. entry_of (key_of 0 t) (lists_of (map shown_of references.now))) stamp }
+    ensures { option_copied result ≡ option_and_then (λ t. entry_of (key_of 0 t) (lists_of references.now)) stamp }
 {
     entry_in(references, &key_of(0, stamp?), Guess::NONE)
 }
 
 /// The entries at these timestamps, each in the place of its timestamp, as they are stored. No entry is read.
 pub fn entries_at_stamps<'r, V: RowValue, A: Allocator, N: Naming>(
-    references: &[TableRef<'r, V, A, N>],
+    references: &'r [TableRef<V, A, N>],
     stamps: &[Option<u64>],
 ) -> [Option<&'r Option<V>>; AHEAD]
     requires { length stamps.now ≤ 16 }
-    ensures { map option_copied (take (length stamps.now) result) ≡ map (option_and_then (λ t. entry_of (key_of 0 t) (lists_of (map shown_of references.now)))) stamps.now }
+    ensures { map option_copied (take (length stamps.now) result) ≡ map (option_and_then (λ t. entry_of (key_of 0 t) (lists_of references.now))) stamps.now }
 {
     let mut found = [None; AHEAD];
     for place in 0..stamps.len() {

@@ -1,21 +1,22 @@
 //! The balances of an account in the past, by the row of sums.
 ghost use Rattle.std.specs.Prelude.{◌≡◌, ◌+◌, ◌<◌, ◌≤◌, ◌++◌, filter_map, length, vec_capacity, vec_len, IfErr, IfOk};
 ghost use Rattle.std.specs.Option.{option_copied, option_map, option_to_list};
-ghost use Rattle.tf_manifest.specs.Row.{content_at};
+ghost use Rattle.tf_registry.specs.Row.{content_at};
 ghost use Rattle.tf_manifest.specs.Rows.{key_of};
 ghost use Rattle.tf_query.specs.Reads.{balance_by, balance_in, stored_record};
 
 use crate::walk::Walk;
 use std::alloc::Allocator;
-use tf_manifest::{Manifest, Naming, Stored};
+use tf_manifest::{Manifest, Stored};
 use tf_records::{AccountBalance, Refusal, Sums};
+use tf_registry::Naming;
 use tf_scan::Direction;
 use tf_table::Key;
 
 /// The sums of an account right after the transfer with this timestamp, where their table has them, by what looked for those
 /// before them.
 fn found_sums<'r, A: Allocator, N: Naming>(
-    sums: &mut Walk<'_, 'r, Stored<Sums>, A, N>,
+    sums: &mut Walk<'r, Stored<Sums>, A, N>,
     account_id: u128,
     timestamp: u64,
 ) -> Option<&'r Sums>
@@ -68,7 +69,7 @@ fn push_balance<B: Allocator>(
 /// look at the next row. The first of them in a table costs a few where the account's rows are expected at the right place.
 pub fn balances_at<A: Allocator, N: Naming, B: Allocator>(
     alloc: B,
-    manifest: &Manifest<'_, A, N>,
+    manifest: &Manifest<A, N>,
     account_id: u128,
     direction: Direction,
     expected: &[usize],

@@ -4,7 +4,8 @@
 
 use crate::window::Window;
 use std::alloc::Allocator;
-use tf_manifest::{Naming, RowValue, Tables};
+use tf_manifest::RowValue;
+use tf_registry::{Naming, Tables};
 use tf_scan::expected_places;
 
 /// The places at which the rows of a value are expected in the tables of a row, each at the place of its table; none where
@@ -20,7 +21,7 @@ impl Expected {
     #[inline]
     pub fn by<V: RowValue, A: Allocator, N: Naming>(
         window: &Window,
-        tables: &Tables<'_, V, A, N>,
+        tables: &Tables<V, A, N>,
         value: u128,
     ) -> Expected {
         let places = if window.reads_most_tables() {

@@ -4,7 +4,7 @@ ghost use Rattle.tf_journal.specs.declared.entry.Entry.{Entry};
 ghost use Rattle.tf_journal.specs.Answer.{account_transfers_of, answer_max, found_accounts_of, found_transfers_of};
 ghost use Rattle.tf_journal.specs.Filter.{is_valid_account_filter, is_valid_query_filter};
 ghost use Rattle.tf_journal.specs.Lawful.{IsSound};
-ghost use Rattle.tf_manifest.specs.Row.{content_at};
+ghost use Rattle.tf_registry.specs.Row.{content_at};
 ghost use Rattle.tf_manifest.specs.Rows.{key_of};
 ghost use Rattle.tf_manifest.specs.View.{ShowsJournal};
 ghost use Rattle.tf_query.specs.Asked.{account_fields_at, account_filter_at, transfer_fields_at};
@@ -24,13 +24,14 @@ use crate::timestamps::{few_within, timestamps_within};
 use crate::window::{FEW, Window};
 use std::alloc::Allocator;
 use tf_journal::{is_valid_account_filter, is_valid_query_filter};
-use tf_manifest::{Manifest, Naming, RowValue, Tables};
+use tf_manifest::{Manifest, RowValue};
 use tf_records::{Account, AccountFilter, QueryFilter, Refusal, Transfer};
+use tf_registry::{Naming, Tables};
 
 /// The timestamps of the transfers that a valid filter of an account's transfers asks for, in its direction.
 pub fn account_timestamps<A: Allocator, N: Naming, B: Allocator + Copy>(
     alloc: B,
-    manifest: &Manifest<'_, A, N>,
+    manifest: &Manifest<A, N>,
     filter: &AccountFilter,
 ) -> Result<Vec<u64, B>, Refusal>
     requires { is_valid_account_filter filter.now ≡ true }
@@ -47,7 +48,7 @@ pub fn account_timestamps<A: Allocator, N: Naming, B: Allocator + Copy>(
 /// The first timestamps in a window of all records of a kind, by the row that has them.
 fn object_timestamps<V: RowValue, A: Allocator, N: Naming, B: Allocator + Copy>(
     alloc: B,
-    objects: &Tables<'_, V, A, N>,
+    objects: &Tables<V, A, N>,
     window: &Window,
 ) -> Result<Vec<u64, B>, Refusal>
     ensures ok { IfOk result (λ timestamps. AreFirst window.now (λ t. is_some (content_at (key_of 0 t) objects.now)) timestamps.items) }
@@ -62,7 +63,7 @@ fn object_timestamps<V: RowValue, A: Allocator, N: Naming, B: Allocator + Copy>(
 /// The timestamps of the transfers that a valid filter asks for, in its direction.
 fn transfer_timestamps<A: Allocator, N: Naming, B: Allocator + Copy>(
     alloc: B,
-    manifest: &Manifest<'_, A, N>,
+    manifest: &Manifest<A, N>,
     filter: &QueryFilter,
 ) -> Result<Vec<u64, B>, Refusal>
     ensures ok { IfOk result (λ timestamps. AreFirst (query_window filter.now) (transfer_fields_at manifest.now filter.now) timestamps.items) }
@@ -79,7 +80,7 @@ fn transfer_timestamps<A: Allocator, N: Naming, B: Allocator + Copy>(
 /// The timestamps of the accounts that a valid filter asks for, in its direction.
 fn found_account_timestamps<A: Allocator, N: Naming, B: Allocator + Copy>(
     alloc: B,
-    manifest: &Manifest<'_, A, N>,
+    manifest: &Manifest<A, N>,
     filter: &QueryFilter,
 ) -> Result<Vec<u64, B>, Refusal>
     ensures ok { IfOk result (λ timestamps. AreFirst (query_window filter.now) (account_fields_at manifest.now filter.now) timestamps.items) }
@@ -98,7 +99,7 @@ fn found_account_timestamps<A: Allocator, N: Naming, B: Allocator + Copy>(
 #[inline(never)]
 fn tested_account_transfers<A: Allocator, N: Naming, B: Allocator + Copy>(
     alloc: B,
-    manifest: &Manifest<'_, A, N>,
+    manifest: &Manifest<A, N>,
     filter: &AccountFilter,
     tested: Tested,
 ) -> Result<Vec<Transfer, B>, Refusal>
@@ -119,7 +120,7 @@ fn tested_account_transfers<A: Allocator, N: Naming, B: Allocator + Copy>(
 /// The first of all transfers in a window that pass.
 fn passing_objects<A: Allocator, N: Naming, B: Allocator + Copy>(
     alloc: B,
-    manifest: &Manifest<'_, A, N>,
+    manifest: &Manifest<A, N>,
     residual: &Residual,
     window: &Window,
 ) -> Result<Vec<Transfer, B>, Refusal>
@@ -137,7 +138,7 @@ fn passing_objects<A: Allocator, N: Naming, B: Allocator + Copy>(
 #[inline(never)]
 fn tested_transfers<A: Allocator, N: Naming, B: Allocator + Copy>(
     alloc: B,
-    manifest: &Manifest<'_, A, N>,
+    manifest: &Manifest<A, N>,
     filter: &QueryFilter,
     tested: Tested,
 ) -> Result<Vec<Transfer, B>, Refusal>
@@ -163,7 +164,7 @@ fn tested_transfers<A: Allocator, N: Naming, B: Allocator + Copy>(
 /// The transfers of an account that a filter asks for, in any journal that the manifest shows.
 pub fn account_transfers<A: Allocator, N: Naming, B: Allocator + Copy>(
     alloc: B,
-    manifest: &Manifest<'_, A, N>,
+    manifest: &Manifest<A, N>,
     filter: &AccountFilter,
 ) -> Result<Vec<Transfer, B>, Refusal>
     ensures ok { (journal : List Entry) → IsSound journal → ShowsJournal manifest.now journal → IfOk result (λ rows. rows.items ≡ account_transfers_of journal filter.now) }
@@ -186,7 +187,7 @@ pub fn account_transfers<A: Allocator, N: Naming, B: Allocator + Copy>(
 /// The transfers at the timestamps that a scan gives for a valid filter of an account's transfers. A few need no memory of their own.
 fn scanned_account_transfers<A: Allocator, N: Naming, B: Allocator + Copy>(
     alloc: B,
-    manifest: &Manifest<'_, A, N>,
+    manifest: &Manifest<A, N>,
     filter: &AccountFilter,
 ) -> Result<Vec<Transfer, B>, Refusal>
     requires { is_valid_account_filter filter.now ≡ true }
@@ -204,7 +205,7 @@ fn scanned_account_transfers<A: Allocator, N: Naming, B: Allocator + Copy>(
 /// The transfers that a valid filter of an account's transfers asks for, at timestamps for which room is made.
 fn many_account_transfers<A: Allocator, N: Naming, B: Allocator + Copy>(
     alloc: B,
-    manifest: &Manifest<'_, A, N>,
+    manifest: &Manifest<A, N>,
     filter: &AccountFilter,
 ) -> Result<Vec<Transfer, B>, Refusal>
     requires { is_valid_account_filter filter.now ≡ true }
@@ -221,7 +222,7 @@ fn many_account_transfers<A: Allocator, N: Naming, B: Allocator + Copy>(
 /// The same for a filter that asks for a few at most: no room is made for their timestamps.
 fn few_account_transfers<A: Allocator, N: Naming, B: Allocator + Copy>(
     alloc: B,
-    manifest: &Manifest<'_, A, N>,
+    manifest: &Manifest<A, N>,
     filter: &AccountFilter,
 ) -> Result<Vec<Transfer, B>, Refusal>
     requires valid { is_valid_account_filter filter.now ≡ true }
@@ -240,7 +241,7 @@ fn few_account_transfers<A: Allocator, N: Naming, B: Allocator + Copy>(
 /// The transfers that a filter asks for, in any journal that the manifest shows.
 pub fn found_transfers<A: Allocator, N: Naming, B: Allocator + Copy>(
     alloc: B,
-    manifest: &Manifest<'_, A, N>,
+    manifest: &Manifest<A, N>,
     filter: &QueryFilter,
 ) -> Result<Vec<Transfer, B>, Refusal>
     ensures ok { (journal : List Entry) → IsSound journal → ShowsJournal manifest.now journal → IfOk result (λ rows. rows.items ≡ found_transfers_of journal filter.now) }
@@ -266,7 +267,7 @@ pub fn found_transfers<A: Allocator, N: Naming, B: Allocator + Copy>(
 /// The accounts that a filter asks for, as answers show them, in any journal that the manifest shows.
 pub fn found_accounts<A: Allocator, N: Naming, B: Allocator + Copy>(
     alloc: B,
-    manifest: &Manifest<'_, A, N>,
+    manifest: &Manifest<A, N>,
     filter: &QueryFilter,
 ) -> Result<Vec<Account, B>, Refusal>
     ensures ok { (journal : List Entry) → IsSound journal → ShowsJournal manifest.now journal → IfOk result (λ rows. rows.items ≡ found_accounts_of journal filter.now) }

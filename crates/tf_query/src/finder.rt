@@ -1,16 +1,16 @@
 //! Look-ups of many records in the tables of their row, one after another.
-ghost use Rattle.std.specs.Prelude.{◌≡◌, ℕ, map, IfSome, IsTrue, MatchOption, None, Some};
+ghost use Rattle.std.specs.Prelude.{◌≡◌, ℕ, IfSome, IsTrue, MatchOption, None, Some};
 ghost use Rattle.std.specs.Option.{option_copied, option_map};
 ghost use Rattle.tf_table.specs.Content.{entry_at, entry_of};
-ghost use Rattle.tf_manifest.specs.Reference.{shown_of};
-ghost use Rattle.tf_manifest.specs.Row.{content_at, lists_of};
+ghost use Rattle.tf_registry.specs.Row.{content_at, lists_of};
 ghost use Rattle.tf_manifest.specs.Rows.{key_of};
 ghost use Rattle.tf_query.specs.Finder.{IsDatedAt, IsInPart, IsNewest, IsOutside};
 
 use crate::reads::key_of;
 use std::alloc::Allocator;
 use std::marker::Model;
-use tf_manifest::{Naming, RowValue, TableRef, Tables};
+use tf_manifest::RowValue;
+use tf_registry::{Naming, TableRef, Tables};
 use tf_scan::{ANYWHERE, expected_in};
 use tf_table::{Key, Sealed, Span};
 
@@ -71,8 +71,8 @@ impl Part {
 /// timestamp lies in it, that table alone is asked first, and where it misses no timestamp the record is read off its place. So
 /// of rising or falling timestamps most cost a few instructions, where the tables of the row follow each other in time.
 #[derive(Drop)]
-pub struct Finder<'t, 'r, V: RowValue, A: Allocator, N: Naming> {
-    references: &'t [TableRef<'r, V, A, N>],
+pub struct Finder<'r, V: RowValue, A: Allocator, N: Naming> {
+    references: &'r [TableRef<V, A, N>],
     place: usize,
     part: Part,
     /// Entries of the table at the place, at one timestamp after another.
@@ -81,24 +81,23 @@ pub struct Finder<'t, 'r, V: RowValue, A: Allocator, N: Naming> {
     from: u64,
 }
 
-impl<'t, 'r, V: RowValue, A: Allocator, N: Naming> Model for Finder<'t, 'r, V, A, N> {
-    ghost use Rattle.std.specs.Prelude.{List, map, take};
-    ghost use Rattle.tf_manifest.specs.Table.{Shown};
+impl<'r, V: RowValue, A: Allocator, N: Naming> Model for Finder<'r, V, A, N> {
+    ghost use Rattle.std.specs.Prelude.{List, take};
+    ghost use Rattle.tf_registry.specs.Table.{Shown};
 
     ghost Value = { List (Shown V) };
 
-    ghost use Rattle.tf_manifest.specs.Reference.{shown_of};
-    ghost use Rattle.tf_manifest.specs.Row.{lists_of};
+    ghost use Rattle.tf_registry.specs.Row.{lists_of};
     ghost use Rattle.tf_query.specs.Finder.{AreSilent, IsDatedAt};
 
-    ghost view = { λ f. map shown_of f.references.now };
+    ghost view = { λ f. f.references.now };
 
-    ghost invariant = { λ f. AreSilent f.part (take f.place (lists_of (map shown_of f.references.now))) × IsDatedAt f.place f.from f.entries.now (lists_of (map shown_of f.references.now)) };
+    ghost invariant = { λ f. AreSilent f.part (take f.place (lists_of f.references.now)) × IsDatedAt f.place f.from f.entries.now (lists_of f.references.now) };
 }
 
-impl<'t, 'r, V: RowValue, A: Allocator, N: Naming> Finder<'t, 'r, V, A, N> {
+impl<'r, V: RowValue, A: Allocator, N: Naming> Finder<'r, V, A, N> {
     /// For the tables of a row. It takes no memory.
-    pub fn new(tables: &'t Tables<'r, V, A, N>) -> Finder<'t, 'r, V, A, N>
+    pub fn new(tables: &'r Tables<V, A, N>) -> Finder<'r, V, A, N>
         ensures { result ≡ tables.now }
     {
         Finder {
@@ -168,10 +167,10 @@ impl<'t, 'r, V: RowValue, A: Allocator, N: Naming> Finder<'t, 'r, V, A, N> {
 /// Entries of the table at a place, at one timestamp after another, and the first timestamp. There are none where the table
 /// doesn't have them side by side.
 fn dated_entries<'r, V: RowValue, A: Allocator, N: Naming>(
-    references: &[TableRef<'r, V, A, N>],
+    references: &'r [TableRef<V, A, N>],
     place: usize,
 ) -> (u64, &'r [Option<V>])
-    ensures { IsDatedAt place result.0 result.1.now (lists_of (map shown_of references.now)) }
+    ensures { IsDatedAt place result.0 result.1.now (lists_of references.now) }
 {
     if place >= references.len() {
         return (0, &[]);
@@ -205,11 +204,11 @@ fn find_in<'r, V: RowValue, A: Allocator>(
 /// The place of the newest table that has a key, the part of time around the key in which no newer one has anything, and the
 /// key's entry. The key may be expected at places in the first tables.
 pub fn newest<'r, V: RowValue, A: Allocator, N: Naming>(
-    references: &[TableRef<'r, V, A, N>],
+    references: &'r [TableRef<V, A, N>],
     key: &Key,
     expected: &[usize],
 ) -> Option<(usize, Part, Option<&'r V>)>
-    ensures { MatchOption result (entry_of key.now (lists_of (map shown_of references.now)) ≡ None) (λ found. IsNewest key.now (lists_of (map shown_of references.now)) found.0 found.1 (option_copied found.2)) }
+    ensures { MatchOption result (entry_of key.now (lists_of references.now) ≡ None) (λ found. IsNewest key.now (lists_of references.now) found.0 found.1 (option_copied found.2)) }
 {
     let mut part = Part::all();
     for place in 0..references.len() {

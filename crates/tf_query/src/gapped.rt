@@ -1,17 +1,17 @@
 //! Tables of a row that remember between which values they have no key.
-ghost use Rattle.std.specs.Prelude.{◌≡◌, ◌<◌, map, IfErr, IfOk, IsTrue};
+ghost use Rattle.std.specs.Prelude.{◌≡◌, ◌<◌, IfErr, IfOk, IsTrue};
 ghost use Rattle.std.specs.Option.{option_copied};
 ghost use Rattle.tf_table.specs.Content.{entry_at, entry_of};
-ghost use Rattle.tf_manifest.specs.Reference.{shown_of};
-ghost use Rattle.tf_manifest.specs.Row.{lists_of};
+ghost use Rattle.tf_registry.specs.Row.{lists_of};
 ghost use Rattle.tf_manifest.specs.Rows.{key_of};
 ghost use Rattle.tf_query.specs.Gapped.{upper_end};
 
 use crate::reads::key_of;
 use std::alloc::Allocator;
 use std::marker::Model;
-use tf_manifest::{Naming, RowValue, TableRef};
+use tf_manifest::RowValue;
 use tf_records::Refusal;
+use tf_registry::{Naming, TableRef};
 use tf_table::{Key, Sealed};
 
 /// The values above one and below another.
@@ -121,9 +121,9 @@ fn upper_end(next: Option<Key>) -> u128
 /// The tables of a row, of which nothing is remembered yet. Room for them is made once, and `NoMemory` is the only refusal.
 pub fn gapped<'r, V: RowValue, A: Allocator, N: Naming, B: Allocator>(
     alloc: B,
-    references: &[TableRef<'r, V, A, N>],
+    references: &'r [TableRef<V, A, N>],
 ) -> Result<Vec<GappedTable<'r, V, A>, B>, Refusal>
-    ensures ok { IfOk result (λ tables. tables.items ≡ lists_of (map shown_of references.now)) }
+    ensures ok { IfOk result (λ tables. tables.items ≡ lists_of references.now) }
     ensures refusal { IfErr result (λ refusal. refusal ≡ Refusal.NoMemory) }
 {
     let mut tables = Vec::with_capacity(alloc, references.len())?;

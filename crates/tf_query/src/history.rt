@@ -19,12 +19,13 @@ use crate::window::Window;
 use crate::{rows_find_ids, scans_answer_filters, sums_date_history};
 use std::alloc::Allocator;
 use tf_journal::{has_flag, is_valid_account_filter};
-use tf_manifest::{Manifest, Naming};
+use tf_manifest::Manifest;
 use tf_records::{Account, AccountBalance, AccountFilter, Refusal};
+use tf_registry::Naming;
 use tf_scan::{Prefix, Scan};
 
 /// Whether the account with this id is stored with history, in any journal that the manifest shows.
-fn has_history<A: Allocator, N: Naming>(manifest: &Manifest<'_, A, N>, id: u128) -> bool
+fn has_history<A: Allocator, N: Naming>(manifest: &Manifest<A, N>, id: u128) -> bool
     ensures { (journal : List Entry) → IsSound journal → ShowsJournal manifest.now journal → result ≡ has_history journal id }
 {
     rows_find_ids();
@@ -47,7 +48,7 @@ fn asks_whole_account(filter: &AccountFilter) -> bool
 /// are read off that row alone, where the account's rows may be expected at places.
 fn summed_timestamps<A: Allocator, N: Naming, B: Allocator + Copy>(
     alloc: B,
-    manifest: &Manifest<'_, A, N>,
+    manifest: &Manifest<A, N>,
     filter: &AccountFilter,
     expected: &[usize],
 ) -> Result<Vec<u64, B>, Refusal>
@@ -63,7 +64,7 @@ fn summed_timestamps<A: Allocator, N: Naming, B: Allocator + Copy>(
 /// The timestamps at which a valid filter asks for balances of its account, in its direction.
 fn history_timestamps<A: Allocator, N: Naming, B: Allocator + Copy>(
     alloc: B,
-    manifest: &Manifest<'_, A, N>,
+    manifest: &Manifest<A, N>,
     filter: &AccountFilter,
     expected: &[usize],
 ) -> Result<Vec<u64, B>, Refusal>
@@ -81,7 +82,7 @@ fn history_timestamps<A: Allocator, N: Naming, B: Allocator + Copy>(
 /// The balances of an account right after the transfers that a filter asks for, in any journal that the manifest shows.
 pub fn account_history<A: Allocator, N: Naming, B: Allocator + Copy>(
     alloc: B,
-    manifest: &Manifest<'_, A, N>,
+    manifest: &Manifest<A, N>,
     filter: &AccountFilter,
 ) -> Result<Vec<AccountBalance, B>, Refusal>
     ensures ok { (journal : List Entry) → IsSound journal → ShowsJournal manifest.now journal → IfOk result (λ rows. rows.items ≡ history_of journal filter.now) }

@@ -7,14 +7,13 @@
 use crate::reads::key_of;
 use crate::residual::Tested;
 use std::alloc::Allocator;
-use tf_manifest::{Manifest, Naming, Tables, UnitRow};
+use tf_manifest::{Manifest, UnitRow};
 use tf_records::{AccountFilter, QueryFilter};
+use tf_registry::{Naming, Tables};
 use tf_table::Sealed;
 
 /// The table of a row that has most rows.
-fn largest<'r, A: Allocator, N: Naming>(
-    tables: &Tables<'r, (), A, N>,
-) -> Option<&'r Sealed<(), A>> {
+fn largest<'r, A: Allocator, N: Naming>(tables: &'r Tables<(), A, N>) -> Option<&'r Sealed<(), A>> {
     let mut largest: Option<&'r Sealed<(), A>> = None;
     for reference in tables.references() {
         let table = reference.table().table();
@@ -31,7 +30,7 @@ fn largest<'r, A: Allocator, N: Naming>(
 
 /// How many timestamps the largest table of an index has under a value, None where nothing is asked for. It takes two searches.
 fn weight<A: Allocator, N: Naming>(
-    manifest: &Manifest<'_, A, N>,
+    manifest: &Manifest<A, N>,
     row: UnitRow,
     value: u128,
 ) -> Option<usize> {
@@ -65,7 +64,7 @@ fn is_tested(lead: Option<usize>, field: Option<usize>) -> bool {
 
 /// The weight of the fields of the user's that a filter asks for: that of the one with the least.
 fn user_weight<A: Allocator, N: Naming>(
-    manifest: &Manifest<'_, A, N>,
+    manifest: &Manifest<A, N>,
     filter: &QueryFilter,
 ) -> Option<usize> {
     let wide = weight(manifest, UnitRow::TransferUserData128, filter.user_data_128);
@@ -85,7 +84,7 @@ fn user_weight<A: Allocator, N: Naming>(
 /// Which fields of a filter of all transfers are tested: a ledger or a code that is asked for beside something that leads to
 /// no more. Two searches for each field that is asked for, unless it is alone.
 pub fn tested_of_query_filter<A: Allocator, N: Naming>(
-    manifest: &Manifest<'_, A, N>,
+    manifest: &Manifest<A, N>,
     filter: &QueryFilter,
 ) -> Tested {
     if filter.ledger == 0 && filter.code == 0 {
@@ -111,7 +110,7 @@ pub fn tested_of_query_filter<A: Allocator, N: Naming>(
 
 /// The same of a filter of an account's transfers: whether a code that is asked for is tested beside the account's sides.
 pub fn tested_of_account_filter<A: Allocator, N: Naming>(
-    manifest: &Manifest<'_, A, N>,
+    manifest: &Manifest<A, N>,
     filter: &AccountFilter,
 ) -> Tested {
     if filter.code == 0 {

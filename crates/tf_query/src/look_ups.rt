@@ -12,11 +12,12 @@ use crate::gapped::{GappedTable, entry_in_gapped, gapped};
 use crate::reads::{AHEAD, account_at, key_of, push_found, push_records, stored_account_at};
 use crate::rows_find_ids;
 use std::alloc::Allocator;
-use tf_manifest::{IdStamp, Manifest, Naming, Stored};
+use tf_manifest::{IdStamp, Manifest, Stored};
 use tf_records::{Account, BATCH_MAX, Refusal, Transfer};
+use tf_registry::Naming;
 
 /// The timestamp of the account with this id.
-fn account_stamp<A: Allocator, N: Naming>(manifest: &Manifest<'_, A, N>, id: u128) -> Option<u64>
+fn account_stamp<A: Allocator, N: Naming>(manifest: &Manifest<A, N>, id: u128) -> Option<u64>
     ensures { result ≡ account_stamp_in manifest.now id }
 {
     let timestamp = manifest.stamps.row(0).find(&key_of(id, 0))?;
@@ -25,7 +26,7 @@ fn account_stamp<A: Allocator, N: Naming>(manifest: &Manifest<'_, A, N>, id: u12
 
 /// The account with this id, as it was stored, where its table has it: two look-ups in rows.
 pub fn stored_account<'r, A: Allocator, N: Naming>(
-    manifest: &Manifest<'r, A, N>,
+    manifest: &'r Manifest<A, N>,
     id: u128,
 ) -> Option<&'r Account>
     ensures { option_copied result ≡ option_and_then (account_in manifest.now) (account_stamp_in manifest.now id) }
@@ -35,7 +36,7 @@ pub fn stored_account<'r, A: Allocator, N: Naming>(
 }
 
 /// The account with this id as answers show it: three look-ups in rows.
-fn account<A: Allocator, N: Naming>(manifest: &Manifest<'_, A, N>, id: u128) -> Option<Account>
+fn account<A: Allocator, N: Naming>(manifest: &Manifest<A, N>, id: u128) -> Option<Account>
     ensures { result ≡ option_and_then (shown_in manifest.now) (account_stamp_in manifest.now id) }
 {
     let timestamp = account_stamp(manifest, id)?;
@@ -67,7 +68,7 @@ fn are_rising(ids: &[u128]) -> bool {
 
 /// The timestamps of the transfers with these ids, each in the place of its id, by searches that take turns.
 fn stamps_at_once<A: Allocator, N: Naming>(
-    manifest: &Manifest<'_, A, N>,
+    manifest: &Manifest<A, N>,
     ids: &[u128],
 ) -> [Option<u64>; AHEAD]
     requires { length ids.now ≤ 16 }
@@ -87,7 +88,7 @@ type IdTables<'r, A, B> = Vec<GappedTable<'r, IdStamp, A>, B>;
 /// The tables of the ids of transfers, where these ids rise and are more than are looked up at once. `NoMemory` is the only refusal.
 fn tables_of_rising<'r, A: Allocator, N: Naming, B: Allocator>(
     alloc: B,
-    manifest: &Manifest<'r, A, N>,
+    manifest: &'r Manifest<A, N>,
     ids: &[u128],
 ) -> Result<Option<IdTables<'r, A, B>>, Refusal>
     ensures ok { IfOk result (λ tables. IfSome tables (λ t. t.items ≡ id_lists manifest.now)) }
@@ -119,7 +120,7 @@ fn stamps_one_by_one<A: Allocator>(
 /// The timestamps of the transfers with these ids, each in the place of its id: in the tables of ids, if there are any, and else by
 /// searches that take turns.
 fn transfer_stamps<A: Allocator, N: Naming, B: Allocator>(
-    manifest: &Manifest<'_, A, N>,
+    manifest: &Manifest<A, N>,
     tables: &mut Option<IdTables<'_, A, B>>,
     ids: &[u128],
 ) -> [Option<u64>; AHEAD]
@@ -150,7 +151,7 @@ fn transfer_of<'r>(found: Option<&'r Option<Stored<Transfer>>>) -> Option<&'r Tr
 /// The entries of all ids are found before the first of them is read, and so it is with the transfers, so that many come from
 /// far memory at once.
 fn transfers_ahead<'r, A: Allocator, N: Naming, B: Allocator>(
-    manifest: &Manifest<'r, A, N>,
+    manifest: &'r Manifest<A, N>,
     tables: &mut Option<IdTables<'r, A, B>>,
     ids: &[u128],
 ) -> [Option<&'r Transfer>; AHEAD]
@@ -181,7 +182,7 @@ fn check_count(ids: &[u128]) -> Result<(), Refusal>
 /// The accounts with these ids. Room for them is made once.
 fn accounts<A: Allocator, N: Naming, B: Allocator>(
     alloc: B,
-    manifest: &Manifest<'_, A, N>,
+    manifest: &Manifest<A, N>,
     ids: &[u128],
 ) -> Result<Vec<Account, B>, Refusal>
     ensures ok { IfOk result (λ rows. rows.items ≡ filter_map (λ id. option_and_then (shown_in manifest.now) (account_stamp_in manifest.now id)) ids.now) }
@@ -198,7 +199,7 @@ fn accounts<A: Allocator, N: Naming, B: Allocator>(
 /// The transfers with these ids. Room for them is made once, and once for tables of ids where many rise.
 fn transfers<A: Allocator, N: Naming, B: Allocator + Copy>(
     alloc: B,
-    manifest: &Manifest<'_, A, N>,
+    manifest: &Manifest<A, N>,
     ids: &[u128],
 ) -> Result<Vec<Transfer, B>, Refusal>
     ensures ok { IfOk result (λ rows. rows.items ≡ filter_map (λ id. option_and_then (transfer_in manifest.now) (transfer_stamp_in manifest.now id)) ids.now) }
@@ -220,7 +221,7 @@ fn transfers<A: Allocator, N: Naming, B: Allocator + Copy>(
 /// The accounts with these ids as answers show them, in any journal that the manifest shows.
 pub fn accounts_with_ids<A: Allocator, N: Naming, B: Allocator>(
     alloc: B,
-    manifest: &Manifest<'_, A, N>,
+    manifest: &Manifest<A, N>,
     ids: &[u128],
 ) -> Result<Vec<Account, B>, Refusal>
     ensures ok { (journal : List Entry) → IsSound journal → ShowsJournal manifest.now journal → IfOk result (λ rows. rows.items ≡ looked_up_accounts journal ids.now) }
@@ -240,7 +241,7 @@ pub fn accounts_with_ids<A: Allocator, N: Naming, B: Allocator>(
 /// The transfers with these ids, in any journal that the manifest shows.
 pub fn transfers_with_ids<A: Allocator, N: Naming, B: Allocator + Copy>(
     alloc: B,
-    manifest: &Manifest<'_, A, N>,
+    manifest: &Manifest<A, N>,
     ids: &[u128],
 ) -> Result<Vec<Transfer, B>, Refusal>
     ensures ok { (journal : List Entry) → IsSound journal → ShowsJournal manifest.now journal → IfOk result (λ rows. rows.items ≡ looked_up_transfers journal ids.now) }

@@ -11,8 +11,9 @@ use crate::residual::Residual;
 use crate::timestamps::{PART, read_part, seek_first};
 use crate::window::Window;
 use std::alloc::Allocator;
-use tf_manifest::{Manifest, Naming};
+use tf_manifest::Manifest;
 use tf_records::{Refusal, Transfer};
+use tf_registry::Naming;
 use tf_scan::{Leaf, Scan};
 
 /// The transfer that was found, if it passes.
@@ -32,7 +33,7 @@ fn passing<'r>(residual: &Residual, found: Option<&'r Transfer>) -> Option<&'r T
 /// Each is tested and copied in one step. A processor reads on behind a test, so that the next ones come from far memory in the
 /// meantime; to find and test many before the first is copied was slower.
 fn push_passing<A: Allocator, N: Naming, B: Allocator>(
-    manifest: &Manifest<'_, A, N>,
+    manifest: &Manifest<A, N>,
     residual: &Residual,
     timestamps: &[u64],
     most: usize,
@@ -56,7 +57,7 @@ fn push_passing<A: Allocator, N: Naming, B: Allocator>(
 /// Reads the first transfers in a window that a scan leads to and that pass, as `passing_within` does.
 fn read_passing<P: Leaf, A: Allocator, N: Naming, B: Allocator>(
     alloc: B,
-    manifest: &Manifest<'_, A, N>,
+    manifest: &Manifest<A, N>,
     residual: &Residual,
     scan: &mut Scan<P, B>,
     window: &Window,
@@ -88,7 +89,7 @@ fn read_passing<P: Leaf, A: Allocator, N: Naming, B: Allocator>(
 /// `NoMemory` is the only refusal.
 pub fn passing_within<P: Leaf + Drop, A: Allocator, N: Naming, B: Allocator>(
     alloc: B,
-    manifest: &Manifest<'_, A, N>,
+    manifest: &Manifest<A, N>,
     residual: &Residual,
     mut scan: Scan<P, B>,
     window: &Window,

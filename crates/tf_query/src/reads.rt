@@ -1,14 +1,15 @@
 //! What tables have at timestamps.
 ghost use Rattle.std.specs.Prelude.{◌≡◌, ◌+◌, ◌<◌, ◌≤◌, ◌++◌, filter_map, length, map, take, vec_capacity, vec_len, IfErr, IfOk};
 ghost use Rattle.std.specs.Option.{option_copied, option_to_list};
-ghost use Rattle.tf_manifest.specs.Row.{content_at};
+ghost use Rattle.tf_registry.specs.Row.{content_at};
 ghost use Rattle.tf_manifest.specs.Rows.{key_of};
 ghost use Rattle.tf_query.specs.Reads.{account_in, shown_by, shown_in, state_in, stored_record, transfer_in};
 
 use crate::finder::Finder;
 use std::alloc::Allocator;
-use tf_manifest::{Manifest, Naming, State, Stored};
+use tf_manifest::{Manifest, State, Stored};
 use tf_records::{Account, Refusal, Transfer};
+use tf_registry::Naming;
 use tf_table::Key;
 
 /// The key of a value and a timestamp.
@@ -20,7 +21,7 @@ pub fn key_of(value: u128, timestamp: u64) -> Key
 
 /// The account with this timestamp, as it was stored, where its table has it.
 pub fn stored_account_at<'r, A: Allocator, N: Naming>(
-    manifest: &Manifest<'r, A, N>,
+    manifest: &'r Manifest<A, N>,
     timestamp: u64,
 ) -> Option<&'r Account>
     ensures { option_copied result ≡ account_in manifest.now timestamp }
@@ -31,7 +32,7 @@ pub fn stored_account_at<'r, A: Allocator, N: Naming>(
 
 /// The present state of the account with this timestamp, where its table has it.
 pub fn state_at<'r, A: Allocator, N: Naming>(
-    manifest: &Manifest<'r, A, N>,
+    manifest: &'r Manifest<A, N>,
     timestamp: u64,
 ) -> Option<&'r State>
     ensures { option_copied result ≡ state_in manifest.now timestamp }
@@ -60,7 +61,7 @@ pub fn shown(stored: &Account, state: &State) -> Account
 
 /// The account with this timestamp as answers show it.
 pub fn account_at<A: Allocator, N: Naming>(
-    manifest: &Manifest<'_, A, N>,
+    manifest: &Manifest<A, N>,
     timestamp: u64,
 ) -> Option<Account>
     ensures { result ≡ shown_in manifest.now timestamp }
@@ -97,7 +98,7 @@ pub fn push_record<T: Copy + Drop, B: Allocator>(rows: &mut Vec<T, B>, found: Op
 /// The transfer with this timestamp, where its table has it, by what looked for others before it.
 #[inline]
 pub fn found_transfer<'r, A: Allocator, N: Naming>(
-    transfers: &mut Finder<'_, 'r, Stored<Transfer>, A, N>,
+    transfers: &mut Finder<'r, Stored<Transfer>, A, N>,
     timestamp: u64,
 ) -> Option<&'r Transfer>
     ensures found { option_copied result ≡ stored_record (content_at (key_of 0 timestamp) transfers.old) }
@@ -113,7 +114,7 @@ pub const AHEAD: usize = 16;
 
 /// The transfers with these timestamps, each in the place of its timestamp, where its table has it.
 fn find_transfers<'r, A: Allocator, N: Naming>(
-    transfers: &mut Finder<'_, 'r, Stored<Transfer>, A, N>,
+    transfers: &mut Finder<'r, Stored<Transfer>, A, N>,
     timestamps: &[u64],
 ) -> [Option<&'r Transfer>; AHEAD]
     requires { length timestamps.now ≤ 16 }
@@ -142,7 +143,7 @@ pub fn push_records<T: Copy + Drop, B: Allocator>(rows: &mut Vec<T, B>, found: &
 /// The transfers with these timestamps. Room for them is made once, and `NoMemory` is the only refusal.
 pub fn transfers_at<A: Allocator, N: Naming, B: Allocator>(
     alloc: B,
-    manifest: &Manifest<'_, A, N>,
+    manifest: &Manifest<A, N>,
     timestamps: &[u64],
 ) -> Result<Vec<Transfer, B>, Refusal>
     ensures ok { IfOk result (λ rows. rows.items ≡ filter_map (transfer_in manifest.now) timestamps.now) }
@@ -164,7 +165,7 @@ pub fn transfers_at<A: Allocator, N: Naming, B: Allocator>(
 /// The accounts with these timestamps as answers show them, made as `transfers_at` makes its rows.
 pub fn accounts_at<A: Allocator, N: Naming, B: Allocator>(
     alloc: B,
-    manifest: &Manifest<'_, A, N>,
+    manifest: &Manifest<A, N>,
     timestamps: &[u64],
 ) -> Result<Vec<Account, B>, Refusal>
     ensures ok { IfOk result (λ rows. rows.items ≡ filter_map (shown_in manifest.now) timestamps.now) }

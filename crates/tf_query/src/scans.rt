@@ -2,7 +2,7 @@
 ghost use Rattle.std.specs.Prelude.{◌≡◌, ◌&&◌, ◌||◌, ℕ, true, not, is_some, IfErr, IfOk, IfSome, IsOkAnd};
 ghost use Rattle.std.specs.List.{list_all};
 ghost use Rattle.tf_journal.specs.Filter.{asks_credits, asks_debits};
-ghost use Rattle.tf_manifest.specs.Row.{content_at};
+ghost use Rattle.tf_registry.specs.Row.{content_at};
 ghost use Rattle.tf_manifest.specs.Rows.{key_of};
 ghost use Rattle.tf_query.specs.Asked.{account_filter_at, meets_at, side_at};
 ghost use Rattle.tf_query.specs.Conditions.{asks_nothing, field_conditions, is_left, meets_all};
@@ -13,8 +13,9 @@ use crate::condition::{Condition, field_conditions};
 use crate::expected::Expected;
 use crate::window::Window;
 use std::alloc::Allocator;
-use tf_manifest::{Manifest, Naming, RowValue, Tables, UnitRow};
+use tf_manifest::{Manifest, RowValue, UnitRow};
 use tf_records::{AccountFilter, Refusal};
+use tf_registry::{Naming, Tables};
 use tf_scan::{Direction, Leaf, Prefix, Scan};
 
 /// Timestamps under values of indexes, joined in boxes on a query's allocator.
@@ -23,7 +24,7 @@ pub type IndexScan<'r, A, B> = Scan<Prefix<'r, (), A>, B>;
 /// The timestamps under a value of an index, to be read for a window. `NoMemory` is the only refusal.
 fn index_scan<'r, A: Allocator, N: Naming, B: Allocator>(
     alloc: B,
-    manifest: &Manifest<'r, A, N>,
+    manifest: &'r Manifest<A, N>,
     window: &Window,
     row: UnitRow,
     value: u128,
@@ -41,7 +42,7 @@ fn index_scan<'r, A: Allocator, N: Naming, B: Allocator>(
 /// The timestamps of all records of a kind, by the row that has them. `NoMemory` is the only refusal.
 pub fn object_scan<'r, V: RowValue, A: Allocator, N: Naming, B: Allocator>(
     alloc: B,
-    objects: &Tables<'r, V, A, N>,
+    objects: &'r Tables<V, A, N>,
     direction: Direction,
 ) -> Result<Scan<Prefix<'r, V, A>, B>, Refusal>
     ensures direction { IfOk result (λ scan. scan.direction ≡ direction) }
@@ -96,7 +97,7 @@ fn united<P: Leaf + Drop, B: Allocator + Copy>(
 /// It takes a box for each field that is asked for, and two more for each but the first. `NoMemory` is the only refusal.
 pub fn narrowed<'r, A: Allocator, N: Naming, B: Allocator + Copy>(
     alloc: B,
-    manifest: &Manifest<'r, A, N>,
+    manifest: &'r Manifest<A, N>,
     window: &Window,
     scan: Option<IndexScan<'r, A, B>>,
     conditions: &[Condition],
@@ -121,7 +122,7 @@ pub fn narrowed<'r, A: Allocator, N: Naming, B: Allocator + Copy>(
 /// both take two more. `NoMemory` is the only refusal.
 fn sides<'r, A: Allocator, N: Naming, B: Allocator + Copy>(
     alloc: B,
-    manifest: &Manifest<'r, A, N>,
+    manifest: &'r Manifest<A, N>,
     window: &Window,
     filter: &AccountFilter,
 ) -> Result<IndexScan<'r, A, B>, Refusal>
@@ -156,7 +157,7 @@ pub fn asks_no_field(filter: &AccountFilter) -> bool
 /// have to be met. `NoMemory` is the only refusal.
 pub fn account_scan<'r, A: Allocator, N: Naming, B: Allocator + Copy>(
     alloc: B,
-    manifest: &Manifest<'r, A, N>,
+    manifest: &'r Manifest<A, N>,
     window: &Window,
     filter: &AccountFilter,
 ) -> Result<IndexScan<'r, A, B>, Refusal>

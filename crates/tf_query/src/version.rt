@@ -7,22 +7,25 @@ ghost use Rattle.tf_query.specs.Version.{ShowsLawfulJournal, journal_shown};
 use crate::filters::{account_transfers, found_accounts, found_transfers};
 use crate::history::account_history;
 use crate::look_ups::{accounts_with_ids, transfers_with_ids};
-use std::alloc::Allocator;
+use std::alloc::{AllocError, Allocator};
 use std::marker::Model;
-use tf_manifest::{Manifest, Naming};
+use std::sync::Arc;
+use tf_manifest::Manifest;
 use tf_records::{Account, AccountBalance, AccountFilter, QueryFilter, Refusal, Transfer};
+use tf_registry::Naming;
 
-/// A copy of a manifest that shows a lawful journal. Contracts see a version as that journal.
+/// A manifest that shows a lawful journal, which may have several owners. Contracts see a version as that journal.
 ///
-/// It holds references alone and borrows nothing but the registries' tables, so nothing that happens to the manifest
-/// changes it, and its calls wait for nobody. It has some 22 kilobytes, so it is better brought up to date in place, by
-/// `update`, than made again.
+/// It owns the tables that it refers to together with whoever else does, so nothing that happens to a store changes it, and its
+/// calls wait for nobody. The last owner of a version gives back its references, and with the last reference to a table the
+/// table's rows: whoever drops that owner pays for it.
 #[derive(Drop)]
-pub struct Version<'r, A: Allocator, N: Naming> {
-    manifest: Manifest<'r, A, N>,
+pub struct Version<A: Allocator, N: Naming> {
+    manifest: Arc<Manifest<A, N>, A>,
 }
 
-impl<'r, A: Allocator, N: Naming> Model for Version<'r, A, N> {
+impl<A: Allocator, N: Naming> Model for Version<A, N> {
+    ghost use Rattle.std.specs.Arc.{arc_value};
     ghost use Rattle.std.specs.Prelude.{List};
     ghost use Rattle.tf_journal.specs.declared.entry.Entry.{Entry};
 
@@ -30,44 +33,34 @@ impl<'r, A: Allocator, N: Naming> Model for Version<'r, A, N> {
 
     ghost use Rattle.tf_query.specs.Version.{ShowsLawfulJournal, journal_shown};
 
-    ghost view = { λ v. journal_shown v.manifest };
+    ghost view = { λ v. journal_shown (arc_value v.manifest) };
 
-    ghost invariant = { λ v. ShowsLawfulJournal v.manifest };
+    ghost invariant = { λ v. ShowsLawfulJournal (arc_value v.manifest) };
 }
 
-impl<'r, A: Allocator, N: Naming> Version<'r, A, N> {
-    /// A version of a manifest, by one pass over its references. It takes no memory.
-    pub fn new(manifest: &Manifest<'r, A, N>) -> Version<'r, A, N>
-        requires { ShowsLawfulJournal manifest.now }
-        ensures { result ≡ journal_shown manifest.now }
+impl<A: Allocator, N: Naming> Version<A, N> {
+    /// The version of a manifest. It takes memory for the count of its owners and the manifest's own 400 bytes. The only
+    /// refusal is `NoMemory`.
+    pub fn new(alloc: A, manifest: Manifest<A, N>) -> Result<Version<A, N>, Refusal>
+        requires { ShowsLawfulJournal manifest }
+        ensures version { IfOk result (λ version. version ≡ journal_shown manifest) }
+        ensures refusal { IfErr result (λ refusal. refusal ≡ Refusal.NoMemory) }
     {
-        Version {
-            manifest: manifest.again(),
+        match Arc::new(alloc, manifest) {
+            Ok(manifest) => Ok(Version { manifest }),
+            Err(_) => Err(Refusal::NoMemory),
         }
     }
 
-    /// Makes this a version of a manifest, in place, by one pass over the references in use. It takes no memory.
-    pub fn update(&mut self, manifest: &Manifest<'r, A, N>)
-        requires { ShowsLawfulJournal manifest.now }
-        ensures { self.new ≡ journal_shown manifest.now }
+    /// The same version, with one more owner. It takes no memory, and no time that grows with the version.
+    ///
+    /// It is refused only where the version has 2^63 - 1 owners, of which contracts know nothing.
+    pub fn again(&self) -> Result<Version<A, N>, AllocError>
+        ensures { IfOk result (λ version. version ≡ self.now) }
     {
-        self.manifest.copy_from(manifest);
-    }
-
-    /// A copy, by one pass over the references. It takes no memory.
-    pub fn again(&self) -> Version<'r, A, N>
-        ensures { result ≡ self.now }
-    {
-        Version {
-            manifest: self.manifest.again(),
-        }
-    }
-
-    /// Makes this what another version is, in place, by one pass over the references in use. It takes no memory.
-    pub fn copy_from(&mut self, other: &Version<'r, A, N>)
-        ensures { self.new ≡ other.now }
-    {
-        self.manifest.copy_from(&other.manifest);
+        Ok(Version {
+            manifest: Arc::try_clone(&self.manifest)?,
+        })
     }
 
     /// The transfers of an account that a filter asks for: those with the account on a side that is asked for.

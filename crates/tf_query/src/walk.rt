@@ -3,14 +3,15 @@ ghost use Rattle.std.specs.Prelude.{◌≡◌, List, Option, IfSome, Some};
 ghost use Rattle.std.specs.Option.{option_copied};
 ghost use Rattle.tf_table.specs.declared.key.Key.{Key};
 ghost use Rattle.tf_table.specs.Content.{entry_of};
-ghost use Rattle.tf_manifest.specs.Row.{content_at, lists_of};
+ghost use Rattle.tf_registry.specs.Row.{content_at, lists_of};
 ghost use Rattle.tf_scan.specs.Place.{rows_behind};
 ghost use Rattle.tf_query.specs.Walk.{AreComing, AreTableRows};
 
 use crate::finder::{Part, newest};
 use std::alloc::Allocator;
 use std::marker::Model;
-use tf_manifest::{Naming, RowValue, TableRef, Tables};
+use tf_manifest::RowValue;
+use tf_registry::{Naming, TableRef, Tables};
 use tf_scan::{ANYWHERE, Direction, expected_in};
 use tf_table::{Column, Cursor, Key, Sealed};
 
@@ -95,36 +96,35 @@ fn rows_from<'r, V, A: Allocator>(
 /// anything. Where the next key lies in it and the next row has it, that row is all that is read. Else the tables are asked, from
 /// the newest on.
 #[derive(Drop)]
-pub struct Walk<'t, 'r, V: RowValue, A: Allocator, N: Naming> {
-    references: &'t [TableRef<'r, V, A, N>],
+pub struct Walk<'r, V: RowValue, A: Allocator, N: Naming> {
+    references: &'r [TableRef<V, A, N>],
     direction: Direction,
     /// Where the first of the keys are expected in the first tables.
-    expected: &'t [usize],
+    expected: &'r [usize],
     coming: Option<Coming<'r, V>>,
 }
 
-impl<'t, 'r, V: RowValue, A: Allocator, N: Naming> Model for Walk<'t, 'r, V, A, N> {
-    ghost use Rattle.std.specs.Prelude.{List, map, IfSome};
-    ghost use Rattle.tf_manifest.specs.Table.{Shown};
+impl<'r, V: RowValue, A: Allocator, N: Naming> Model for Walk<'r, V, A, N> {
+    ghost use Rattle.std.specs.Prelude.{List, IfSome};
+    ghost use Rattle.tf_registry.specs.Table.{Shown};
 
     ghost Value = { List (Shown V) };
 
-    ghost use Rattle.tf_manifest.specs.Reference.{shown_of};
-    ghost use Rattle.tf_manifest.specs.Row.{lists_of};
+    ghost use Rattle.tf_registry.specs.Row.{lists_of};
     ghost use Rattle.tf_query.specs.Walk.{AreComing};
 
-    ghost view = { λ w. map shown_of w.references.now };
+    ghost view = { λ w. w.references.now };
 
-    ghost invariant = { λ w. IfSome w.coming (λ c. AreComing (lists_of (map shown_of w.references.now)) c.part c.keys.now c.entries.now) };
+    ghost invariant = { λ w. IfSome w.coming (λ c. AreComing (lists_of w.references.now) c.part c.keys.now c.entries.now) };
 }
 
-impl<'t, 'r, V: RowValue, A: Allocator, N: Naming> Walk<'t, 'r, V, A, N> {
+impl<'r, V: RowValue, A: Allocator, N: Naming> Walk<'r, V, A, N> {
     /// In the tables of a row, where the first of the keys may be expected at places in the first tables. It takes no memory.
     pub fn new(
-        tables: &'t Tables<'r, V, A, N>,
+        tables: &'r Tables<V, A, N>,
         direction: Direction,
-        expected: &'t [usize],
-    ) -> Walk<'t, 'r, V, A, N>
+        expected: &'r [usize],
+    ) -> Walk<'r, V, A, N>
         ensures { result ≡ tables.now }
     {
         Walk {

@@ -1,1 +1,2 @@
 mod AllAnswers
+mod Crossing

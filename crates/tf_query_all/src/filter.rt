@@ -3,9 +3,9 @@ ghost use Rattle.std.specs.Prelude.{◌≡◌, IfErr, IfOk};
 ghost use Rattle.tf_query_all.specs.Many.{IsAnswer};
 
 use std::alloc::Allocator;
-use tf_manifest::Naming;
 use tf_query::Version;
 use tf_records::{Account, AccountBalance, AccountFilter, QueryFilter, Refusal, Transfer};
+use tf_registry::Naming;
 
 /// A filter, with the query that it is of.
 #[derive(Clone, Copy, Debug, PartialEq, Eq)]
@@ -36,7 +36,7 @@ pub enum Answer<A: Allocator> {
 /// The answer of one filter. `NoMemory` is the only refusal.
 pub(crate) fn answered<A: Allocator, N: Naming, B: Allocator + Copy>(
     alloc: B,
-    version: &Version<'_, A, N>,
+    version: &Version<A, N>,
     filter: &Filter,
 ) -> Result<Answer<B>, Refusal>
     ensures ok { IfOk result (IsAnswer version.now filter.now) }

@@ -15,9 +15,9 @@ pub use filter::{Answer, Filter};
 use rayon::prelude::*;
 use std::alloc::{AllocError, Allocator};
 use std::thread::Threads;
-use tf_manifest::Naming;
 use tf_query::Version;
 use tf_records::Refusal;
+use tf_registry::Naming;
 
 /// The answers of filters over a version, in the order of the filters: each is that of the call for its query.
 ///
@@ -27,7 +27,7 @@ use tf_records::Refusal;
 pub fn query_all<A, N, B, R>(
     rt: &R,
     alloc: B,
-    version: &Version<'_, A, N>,
+    version: &Version<A, N>,
     filters: &[Filter],
 ) -> Result<Vec<Answer<B>, B>, Refusal>
 where

@@ -3,9 +3,9 @@ ghost use Rattle.std.specs.Prelude.{◌≡◌, IfErr, IfOk};
 ghost use Rattle.tf_readers.specs.Asked.{IsFound};
 
 use std::alloc::Allocator;
-use tf_manifest::Naming;
 use tf_query::Version;
 use tf_records::{Account, AccountBalance, AccountFilter, QueryFilter, Refusal, Transfer};
+use tf_registry::Naming;
 
 /// A query with its filter, or a look-up of one id.
 #[derive(Clone, Copy, Debug, PartialEq, Eq)]
@@ -38,7 +38,7 @@ pub enum Found<A: Allocator> {
 /// What a version answers. `NoMemory` is the only refusal.
 pub(crate) fn answered<A: Allocator, N: Naming, B: Allocator + Copy>(
     alloc: B,
-    version: &Version<'_, A, N>,
+    version: &Version<A, N>,
     asked: &Asked,
 ) -> Result<Found<B>, Refusal>
     ensures found { IfOk result (IsFound version.now asked.now) }

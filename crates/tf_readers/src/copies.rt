@@ -41,8 +41,8 @@ where
     let copies = WriteHandle::new(
         alloc,
         rt,
-        page.again(),
-        page.again(),
+        page.again()?,
+        page.again()?,
         readers.max(1) as usize,
     )?;
     let readers = readers_of(alloc, &copies, page, readers)?;
@@ -69,15 +69,18 @@ where
         let Ok(handle) = copies.handle() else {
             break;
         };
-        readers.push(Reader::new(handle, page))?;
+        readers.push(Reader::new(handle, page.again()?))?;
     }
     Ok(readers)
 }
 
 /// Publishes a page: readers that enter later see it. It waits for those that still read what was published before the last.
 ///
+/// The other copy owns what was published before this page until the next publication, and what that alone refers to comes
+/// back no earlier.
+///
 /// [`Refusal::NoMemory`] where the copies refuse the publication; nothing was shown then. Takes memory at the first
-/// publication alone, and copies the page's references into each of both copies.
+/// publication alone, and makes one more owner of the page's version.
 pub fn show<V, A, S, R>(
     copies: &mut Copies<V, A, S, R>,
     page: Published<V, S>,

@@ -14,7 +14,7 @@ mod reader;
 
 pub use asked::{Asked, Found};
 pub use copies::{Copies, open, show};
-pub use pages::{VersionOf, empty_manifests_show_nothing, page_of, version_of};
+pub use pages::{empty_manifests_show_nothing, version_of};
 pub use publishable::{Publishable, Shows};
 pub use published::Published;
 pub use reader::Reader;

@@ -1,5 +1,5 @@
 //! What was published.
-ghost use Rattle.std.specs.Prelude.{◌≡◌};
+ghost use Rattle.std.specs.Prelude.{◌≡◌, IfOk};
 ghost use Rattle.tf_journal.specs.Lawful.{IsLawful};
 
 use crate::publishable::Publishable;
@@ -12,20 +12,19 @@ use tf_journal::Entry;
 /// A version, and the history as far as it goes: both are one journal, which is lawful. Contracts see it as that journal.
 #[derive(Drop)]
 pub struct Published<V: Publishable, S: HistoryName> {
-    /// It is always there: copies are written over it.
-    version: Option<V>,
+    version: V,
     front: Front<S>,
 }
 
 impl<V: Publishable, S: HistoryName> Model for Published<V, S> {
-    ghost use Rattle.std.specs.Prelude.{◌≡◌, List, IfSome, IsSome};
+    ghost use Rattle.std.specs.Prelude.{◌≡◌, List};
     ghost use Rattle.tf_journal.specs.declared.entry.Entry.{Entry};
 
     ghost Value = { List Entry };
 
     ghost view = { λ p. p.front };
 
-    ghost invariant = { λ p. IsSome p.version × IfSome p.version (λ version. V.journal version ≡ p.front) };
+    ghost invariant = { λ p. V.journal p.version ≡ p.front };
 }
 
 impl<V: Publishable, S: HistoryName> Published<V, S> {
@@ -35,7 +34,7 @@ impl<V: Publishable, S: HistoryName> Published<V, S> {
         ensures { result ≡ front.now }
     {
         Published {
-            version: Some(version),
+            version,
             front: front.again(),
         }
     }
@@ -44,10 +43,7 @@ impl<V: Publishable, S: HistoryName> Published<V, S> {
     pub fn version(&self) -> &V
         ensures { V.journal result.now ≡ self.now }
     {
-        match &self.version {
-            Some(version) => version,
-            None => unreachable!(),
-        }
+        &self.version
     }
 
     /// The history as far as it goes.
@@ -57,33 +53,15 @@ impl<V: Publishable, S: HistoryName> Published<V, S> {
         &self.front
     }
 
-    /// A copy. It takes no memory.
-    pub fn again(&self) -> Published<V, S>
-        ensures { result ≡ self.now }
+    /// The same, with one more owner of the version. It takes no memory, and is refused only where the version has 2^63 - 1
+    /// owners.
+    pub fn again(&self) -> Result<Published<V, S>, AllocError>
+        ensures { IfOk result (λ copy. copy ≡ self.now) }
     {
-        let mut version = None;
-        self.version().copy_to(&mut version);
-        Published {
-            version,
+        Ok(Published {
+            version: self.version.again()?,
             front: self.front.again(),
-        }
-    }
-
-    /// Makes this what another is, in place. It takes no memory.
-    pub fn copy_from(&mut self, other: &Published<V, S>)
-        ensures { self.new ≡ other.now }
-    {
-        other.version().copy_to(&mut self.version);
-        self.front = other.front.again();
-    }
-
-    /// The same as `copy_from`, but that nothing is copied where both came of as many publications.
-    pub fn update(&mut self, other: &Published<V, S>)
-        ensures { self.new ≡ other.now }
-    {
-        if !self.front.is_same(&other.front) {
-            self.copy_from(other);
-        }
+        })
     }
 }
 
@@ -95,15 +73,23 @@ impl<V: Publishable + Drop, S: HistoryName> Absorb<Published<V, S>> for Publishe
 
     ghost applied = { λ before next. next };
 
-    ghost never_fails = { Unit {0} };
-
-    /// It copies in place, takes no memory and always succeeds.
+    /// One more owner of the version. It takes no memory, and is refused only where the version has 2^63 - 1 owners.
     fn absorb_first(
         &mut self,
         operation: &Published<V, S>,
         _other: &Published<V, S>,
     ) -> Result<(), AllocError> {
-        self.copy_from(operation);
+        *self = operation.again()?;
+        Ok(())
+    }
+
+    /// Takes the operation's own version, and is never refused.
+    fn absorb_second(
+        &mut self,
+        operation: Published<V, S>,
+        _other: &Published<V, S>,
+    ) -> Result<(), Published<V, S>> {
+        *self = operation;
         Ok(())
     }
 }

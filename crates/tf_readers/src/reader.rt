@@ -5,7 +5,7 @@ ghost use Rattle.tf_history.specs.Beginning.{OneBegins, longer};
 ghost use Rattle.tf_journal.specs.Lawful.{IsLawful};
 ghost use Rattle.tf_readers.specs.Reader.{HasSeen};
 
-use crate::publishable::{Publishable, copy_of};
+use crate::publishable::Publishable;
 use crate::published::Published;
 use left_right::ReadHandle;
 use std::alloc::Allocator;
@@ -16,7 +16,8 @@ use tf_history::{Beginning, Front, HistoryName};
 /// holds.
 ///
 /// Its calls take no memory and wait for nobody. What it has seen only grows. The version that it holds is its own, and may be
-/// read while others are published.
+/// read while others are published. Who drops the last owner of a version gives back what it alone referred to, so a call that
+/// lets a version go may free memory.
 #[derive(Drop)]
 pub struct Reader<V: Publishable + Drop, A: Allocator, S: HistoryName> {
     copies: ReadHandle<Published<V, S>, A>,
@@ -36,21 +37,21 @@ impl<V: Publishable + Drop, A: Allocator, S: HistoryName> Reader<V, A, S> {
     /// A reader of copies, which has seen a page.
     pub(crate) fn new(
         copies: ReadHandle<Published<V, S>, A>,
-        page: &Published<V, S>,
+        page: Published<V, S>,
     ) -> Reader<V, A, S>
-        ensures { HasSeen page.now result }
+        ensures { HasSeen page result }
     {
         Reader {
             copies,
             known: Beginning::new(page.front(), page.front().len()),
-            page: page.again(),
+            page,
         }
     }
 
     /// The version that was published last, no older than all that this reader has seen, which it then has seen too.
     ///
-    /// None where the copies are gone, or what they show is older than what was learned; all is then as before. Takes an
-    /// entry of a copy, and one pass over its references.
+    /// None where the copies are gone, or what they show is older than what was learned, or the version has 2^63 - 1 owners;
+    /// all is then as before. Takes an entry of a copy, and makes one more owner of the version.
     pub fn latest(&mut self) -> Option<V>
         ensures lawful { IfSome result (λ version. IsLawful (V.journal version)) }
         ensures later { IfSome result (λ version. IsPrefix self.old.seen (V.journal version)) }
@@ -59,31 +60,37 @@ impl<V: Publishable + Drop, A: Allocator, S: HistoryName> Reader<V, A, S> {
         ensures none { IfNone result (self.new ≡ self.old) }
     {
         let page = self.copies.enter()?;
+        let Ok(version) = page.version().again() else {
+            return None;
+        };
         if !self.known.reach(page.front()) {
             return None;
         }
         // Only the length of a front tells that its journal is lawful.
         let _length = page.front().len();
-        Some(copy_of(page.version()))
+        Some(version)
     }
 
-    /// Brings the version that this reader holds up to date, in place. It is then the one that was published last, no older
-    /// than all that this reader has seen, which it then has seen too.
+    /// Brings the version that this reader holds up to date. It is then the one that was published last, no older than all that
+    /// this reader has seen, which it then has seen too. What it held before is let go.
     ///
-    /// False where the copies are gone, or what they show is older than what was learned; all is then as before. Takes an
-    /// entry of a copy and, where something was published since, one pass over the references in use.
+    /// False where `latest` would give none; all is then as before. Takes an entry of a copy, and makes one more owner of the
+    /// version.
     pub fn follow(&mut self) -> bool
         ensures later { result ≡ true → IsPrefix self.old.seen self.new.held }
         ensures seen { result ≡ true → self.new.seen ≡ self.new.held }
         ensures none { result ≡ false → self.new ≡ self.old }
     {
-        let Some(page) = self.copies.enter() else {
+        let Some(entered) = self.copies.enter() else {
+            return false;
+        };
+        let Ok(page) = entered.again() else {
             return false;
         };
         if !self.known.reach(page.front()) {
             return false;
         }
-        self.page.update(&page);
+        self.page = page;
         true
     }
 

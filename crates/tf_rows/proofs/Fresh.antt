@@ -33,7 +33,7 @@ use Rattle.tf_rows.specs.Nest.{IsTree, fits_row, is_of_kind, is_tree}
 use Rattle.tf_rows.specs.Parts.{GivesBack, PutsEntry, seen_rows}
 use Rattle.tf_rows.specs.SealedRow.{IsSealedOf, entries_of_sealed, kind_of_sealed}
 use Rattle.tf_rows.specs.declared.sealed_row.SealedRow.{SealedRow}
-use Rattle.tf_manifest.specs.Row.{is_nil}
+use Rattle.tf_registry.specs.Row.{is_nil}
 use Rattle.tf_rows.proofs.Parts.{none-seen}
 
 -- the same with other entries in one row

@@ -24,5 +24,4 @@ pub mod Walks
 pub mod DueRows
 pub mod BelowFloors
 pub mod Added
-pub mod SealedRows
 pub mod HeldAccounts

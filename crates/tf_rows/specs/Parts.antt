@@ -10,7 +10,7 @@ use Rattle.tf_manifest.specs.declared.row.Row.{Row}
 use Rattle.tf_manifest.specs.declared.row.Row.TheVariants as row
 use Rattle.tf_manifest.specs.declared.value.Value.{Value}
 use Rattle.tf_manifest.specs.Kinds.{kind_of}
-use Rattle.tf_manifest.specs.Row.{lists_of, value_in}
+use Rattle.tf_registry.specs.Row.{lists_of, value_in}
 use Rattle.tf_manifest.specs.View.{View, tables_by, value_by}
 
 -- a row: the entries of its mutable table, and those of each sealed table, newest first

@@ -5,9 +5,9 @@ use Rattle.tf_manifest.specs.declared.kind.Kind.{Kind}
 use Rattle.tf_manifest.specs.declared.kind.Kind.TheVariants as kind
 use Rattle.tf_manifest.specs.declared.row.Row.{Row}
 use Rattle.tf_manifest.specs.Kinds.{kind_of}
-use Rattle.tf_manifest.specs.Limit.{one_more}
-use Rattle.tf_manifest.specs.Row.{is_nil}
-use Rattle.tf_manifest.specs.Table.{Shown, shown}
+use Rattle.tf_registry.specs.Limit.{one_more}
+use Rattle.tf_registry.specs.Row.{is_nil}
+use Rattle.tf_registry.specs.Table.{Shown, shown}
 use Rattle.tf_manifest.specs.View.{StoredBy, View, place_by, rows_by, value_by, with_rows}
 use Rattle.tf_rows.specs.declared.sealed_row.SealedRow.{SealedRow}
 use Rattle.tf_rows.specs.declared.sealed_row.SealedRow.TheVariants as sealed

@@ -7,7 +7,7 @@ ghost use Rattle.tf_table.specs.First.{IsFirstAbove};
 ghost use Rattle.tf_table.specs.Key.{key_cmp};
 ghost use Rattle.tf_table.specs.Mutable.{given_back};
 ghost use Rattle.tf_rows.specs.Parts.{seen_rows};
-ghost use Rattle.tf_manifest.specs.Row.{is_nil};
+ghost use Rattle.tf_registry.specs.Row.{is_nil};
 
 use crate::held::Held;
 use std::alloc::Allocator;

@@ -1,7 +1,7 @@
 //! Mutable tables that are sealed row by row.
 ghost use Rattle.std.specs.Prelude.{◌≡◌, [], IfOk, IfErr};
 ghost use Rattle.tf_rows.specs.SealedRow.{IsSealedOf};
-ghost use Rattle.tf_manifest.specs.Row.{is_nil};
+ghost use Rattle.tf_registry.specs.Row.{is_nil};
 ghost use Rattle.tf_manifest.specs.declared.row.Row.{Row};
 
 use crate::{MutableRows, SealedRow};

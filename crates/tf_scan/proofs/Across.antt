@@ -1,6 +1,6 @@
 -- Steps of all places of a prefix together.
 use Rattle.std.proofs.Common.{◌≡◌, ℕ, zero, ◌+◌, ◌<◌, ◌≤◌, List, [], ◌∷◌, ◌++◌, Option, Some, None, Bool, true, false, not, cond, ◌⊎◌, inl, inr, refl, sym, ◌∙◌, ap, subst, arith, length, get_or, sum_by}
-use Rattle.std.specs.Prelude.{suc, nat_eq, is_some, take, map}
+use Rattle.std.specs.Prelude.{suc, nat_eq, is_some, take}
 use Rattle.std.specs.List.{AllByRecursion, AllZip}
 use Rattle.std.specs.Option.{option_map, option_copied, option_flatten}
 use Rattle.std.proofs.lemmas.List.{append-nil, take_all, take_more}
@@ -12,9 +12,9 @@ use denote.Ref.{Bor}
 use Rattle.tf_table.specs.declared.key.Key.{Key}
 use Rattle.tf_table.specs.Content.{entry_at, entry_of, first_some}
 use Rattle.tf_table.proofs.Determined.{bool_cases, first_some-none}
-use Rattle.tf_manifest.specs.Row.{lists_of}
+use Rattle.tf_registry.specs.Row.{lists_of}
 use Rattle.tf_manifest.specs.Rows.{key_of}
-use Rattle.tf_manifest.specs.Table.{Shown}
+use Rattle.tf_registry.specs.Table.{Shown}
 use Rattle.tf_scan.specs.declared.direction.Direction.{Direction}
 use Rattle.tf_scan.specs.declared.place.Place.{Place}
 use Rattle.tf_scan.specs.Order.{is_before, those_from}
@@ -211,8 +211,8 @@ each-push P [] x h p = (p, tt)
 each-push P (y ∷ ys) x h p = (h.0, each-push P ys x h.1 p)
 
 -- one more table of a row
-pub shown-push : {V X : Type 0} (show : X → Shown V) (key : Key) (xs : List X) (x : X) → entry_of key (lists_of (map show (xs ++ x ∷ []))) ≡ first_some (entry_of key (lists_of (map show xs))) (entry_at key (show x).table.rows)
-shown-push show key [] x = first_some-none (entry_at key (show x).table.rows)
-shown-push show key (y ∷ xs) x =
-    ap (first_some (entry_at key (show y).table.rows)) (shown-push show key xs x)
-    ∙ first_some-assoc (entry_at key (show y).table.rows) (entry_of key (lists_of (map show xs))) (entry_at key (show x).table.rows)
+pub shown-push : {V : Type 0} (key : Key) (xs : List (Shown V)) (x : Shown V) → entry_of key (lists_of (xs ++ x ∷ [])) ≡ first_some (entry_of key (lists_of xs)) (entry_at key x.table.rows)
+shown-push key [] x = first_some-none (entry_at key x.table.rows)
+shown-push key (y ∷ xs) x =
+    ap (first_some (entry_at key y.table.rows)) (shown-push key xs x)
+    ∙ first_some-assoc (entry_at key y.table.rows) (entry_of key (lists_of xs)) (entry_at key x.table.rows)

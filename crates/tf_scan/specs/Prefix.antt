@@ -2,7 +2,7 @@
 use Rattle.std.specs.Prelude.{ℕ, Bool, is_some, List, [], ◌∷◌, Option, filter}
 use Rattle.tf_table.specs.declared.key.Key.{Key}
 use Rattle.tf_table.specs.Span.{timestamps}
-use Rattle.tf_manifest.specs.Row.{value_in}
+use Rattle.tf_registry.specs.Row.{value_in}
 use Rattle.tf_manifest.specs.Rows.{key_of}
 use Rattle.tf_scan.specs.declared.direction.Direction.{Direction}
 use Rattle.tf_scan.specs.Sets.{union_of}

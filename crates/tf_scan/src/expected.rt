@@ -2,7 +2,8 @@
 ghost use Rattle.std.specs.Prelude.{◌≡◌, ◌≤◌, length};
 
 use std::alloc::Allocator;
-use tf_manifest::{Naming, RowValue, TableRef, Tables};
+use tf_manifest::RowValue;
+use tf_registry::{Naming, TableRef, Tables};
 use tf_table::{Key, Probe, take_turns};
 
 /// The place at which the first row of a value is expected in a table where none is known.
@@ -22,7 +23,7 @@ const TURNS: usize = 16;
 
 /// Searches in tables for a key, which have not begun.
 fn probes<'r, V: RowValue, A: Allocator, N: Naming>(
-    references: &[TableRef<'r, V, A, N>],
+    references: &'r [TableRef<V, A, N>],
     key: &Key,
 ) -> [Probe<'r>; TURNS]
     requires { length references.now ≤ 16 }
@@ -39,7 +40,7 @@ fn probes<'r, V: RowValue, A: Allocator, N: Naming>(
 /// So the entry there is read, and those of several tables come from memory together.
 #[inline]
 fn ended_at<V: RowValue, A: Allocator, N: Naming>(
-    reference: TableRef<'_, V, A, N>,
+    reference: &TableRef<V, A, N>,
     probe: &Probe<'_>,
 ) -> usize {
     let place = probe.place();
@@ -51,7 +52,7 @@ fn ended_at<V: RowValue, A: Allocator, N: Naming>(
 ///
 /// The searches for them take turns, so that none waits for what another reads.
 fn expect_in_turns<V: RowValue, A: Allocator, N: Naming>(
-    references: &[TableRef<'_, V, A, N>],
+    references: &[TableRef<V, A, N>],
     key: &Key,
     out: &mut [usize],
 )
@@ -62,7 +63,7 @@ fn expect_in_turns<V: RowValue, A: Allocator, N: Naming>(
     let mut probes = probes(references, key);
     take_turns(&mut probes[..references.len()]);
     for place in 0..references.len() {
-        out[place] = ended_at(references[place], &probes[place]);
+        out[place] = ended_at(&references[place], &probes[place]);
     }
 }
 
@@ -73,7 +74,7 @@ fn expect_in_turns<V: RowValue, A: Allocator, N: Naming>(
 /// take turns, so that what they read comes from memory together. It takes as many rounds as the logarithm of the rows of the
 /// greatest table, and no memory.
 pub fn expected_places<V: RowValue, A: Allocator, N: Naming>(
-    tables: &Tables<'_, V, A, N>,
+    tables: &Tables<V, A, N>,
     value: u128,
 ) -> [usize; 64] {
     let references = tables.references();

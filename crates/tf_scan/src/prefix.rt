@@ -1,6 +1,6 @@
 //! Prefixes of a row.
 ghost use Rattle.std.specs.Prelude.{◌≡◌, ℕ, is_some};
-ghost use Rattle.tf_manifest.specs.Row.{content_at};
+ghost use Rattle.tf_registry.specs.Row.{content_at};
 ghost use Rattle.tf_manifest.specs.Rows.{key_of};
 ghost use Rattle.tf_scan.specs.Order.{IsInOrder};
 ghost use Rattle.tf_scan.specs.Sets.{is_among};
@@ -12,7 +12,8 @@ use crate::{Direction, Leaf, places};
 use arrayvec::ArrayVec;
 use std::alloc::Allocator;
 use std::marker::Model;
-use tf_manifest::{Naming, RowValue, Tables};
+use tf_manifest::RowValue;
+use tf_registry::{Naming, Tables};
 
 /// The timestamps under one value in a row: those t for which the content of the row's sealed tables has something at
 /// the key of the value and t.
@@ -47,7 +48,7 @@ impl<'r, V, A: Allocator> Model for Prefix<'r, V, A> {
 impl<'r, V: RowValue, A: Allocator> Prefix<'r, V, A> {
     /// The prefix of a value in the content of these tables. It takes no memory, and looks at the span of each table.
     pub fn new<N: Naming>(
-        tables: &Tables<'r, V, A, N>,
+        tables: &'r Tables<V, A, N>,
         value: u128,
         direction: Direction,
     ) -> Prefix<'r, V, A>
@@ -64,7 +65,7 @@ impl<'r, V: RowValue, A: Allocator> Prefix<'r, V, A> {
     /// A table that is read is searched from its place on, ever further, which takes a few comparisons where the value stands
     /// there. Where most of the tables will be read, `expected_places` tells the places of all of them.
     pub fn expecting<N: Naming>(
-        tables: &Tables<'r, V, A, N>,
+        tables: &'r Tables<V, A, N>,
         value: u128,
         direction: Direction,
         expected: &[usize],

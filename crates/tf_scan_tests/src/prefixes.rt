@@ -1,6 +1,7 @@
 //! Prefixes of rows over several tables, beside the plain filter.
 ghost use Rattle.std.specs.Prelude.{◌≡◌, ◌+◌, ◌<◌, ◌≤◌, length, OnOk, IfOk};
-ghost use Rattle.tf_manifest.specs.Row.{weight};
+ghost use Rattle.std.specs.Arc.{arc_value};
+ghost use Rattle.tf_registry.specs.Row.{weight};
 
 use crate::joins::{Joined, NEVER, Seek, assert_gives};
 use crate::lists::Multiples;
@@ -10,8 +11,8 @@ use std::marker::Brand;
 use std::process::Abort;
 use std::sync::Wait;
 use std::test::Fail;
-use tf_manifest::{Body, Naming, Registry, Tables};
 use tf_records::Refusal;
+use tf_registry::{Body, Held, Naming, Registry, Tables};
 use tf_scan::{Direction, Leaf, Prefix, Scan, expected_places};
 use tf_table::{Key, Log, MutableTable, Sealed};
 
@@ -38,11 +39,20 @@ pub(super) fn value_of(list: Multiples) -> u128 {
     u128::from(list.of.wrapping_mul(10_000).wrapping_add(list.count))
 }
 
+/// A table of level 0, to be pushed.
+fn held(alloc: Global, sealed: Sealed<(), Global>, oldest: bool) -> Result<Held<(), Global>, Fail>
+    ensures level { IfOk result (λ held. (arc_value held).level ≡ 0) }
+    ensures oldest { IfOk result (λ held. (arc_value held).oldest ≡ oldest) }
+{
+    Ok(Body::new(sealed, 0, oldest).hold(alloc)?)
+}
+
 /// Puts a table in front of the others.
-fn add_table<'r, N: Naming, R: Wait>(
+fn add_table<N: Naming, R: Wait>(
     rt: &R,
-    registry: &'r Registry<(), Global>,
-    tables: &mut Tables<'r, (), Global, N>,
+    alloc: Global,
+    registry: &Registry<(), Global>,
+    tables: &mut Tables<(), Global, N>,
     sealed: Sealed<(), Global>,
 ) -> Result<(), Fail>
     requires here { registry.now ≡ N.shelf 4 }
@@ -51,12 +61,13 @@ fn add_table<'r, N: Naming, R: Wait>(
     ensures weight { OnOk result (weight tables.new ≡ weight tables.old + 1) }
     ensures length { OnOk result (length tables.new ≡ length tables.old + 1) }
 {
-    let body = Body::new(sealed, 0, tables.is_empty());
-    let Ok(table) = registry.push(rt, body) else {
-        return Err(Fail::new("no memory for a push"));
-    };
-    tables.add(table);
-    Ok(())
+    match registry.push(rt, held(alloc, sealed, tables.is_empty())?) {
+        Ok(table) => {
+            tables.add(table);
+            Ok(())
+        }
+        Err(_) => Err(Fail::new("no memory for a push")),
+    }
 }
 
 /// What table `t`, counted from the oldest, has of a list at a timestamp, if it has the key.
@@ -140,17 +151,17 @@ impl Layout {
 }
 
 /// A row.
-pub(super) fn row<'r, N: Naming, R: Wait>(
+pub(super) fn row<N: Naming, R: Wait>(
     rt: &R,
     alloc: Global,
-    registry: &'r Registry<(), Global>,
+    registry: &Registry<(), Global>,
     layout: Layout,
-) -> Result<Tables<'r, (), Global, N>, Fail>
+) -> Result<Tables<(), Global, N>, Fail>
     requires here { registry.now ≡ N.shelf 4 }
 {
-    let mut tables = Tables::new(registry);
+    let mut tables = Tables::new(alloc)?;
     for t in 0..layout.tables() {
-        add_table(rt, registry, &mut tables, layout.table(alloc, t)?)?;
+        add_table(rt, alloc, registry, &mut tables, layout.table(alloc, t)?)?;
     }
     Ok(tables)
 }
@@ -158,7 +169,7 @@ pub(super) fn row<'r, N: Naming, R: Wait>(
 /// A join of two prefixes gives what the plain filter does.
 fn assert_join<N: Naming>(
     rt: &(impl Abort + AllocGlobal),
-    tables: &Tables<'_, (), Global, N>,
+    tables: &Tables<(), Global, N>,
     joined: Joined,
     lists: (Multiples, Multiples),
     direction: Direction,
@@ -179,7 +190,7 @@ fn assert_join<N: Naming>(
 /// The same of both joins, in both directions.
 fn assert_joins<N: Naming>(
     rt: &(impl Abort + AllocGlobal),
-    tables: &Tables<'_, (), Global, N>,
+    tables: &Tables<(), Global, N>,
     left: Multiples,
     right: Multiples,
     seek: Seek,
@@ -192,6 +203,24 @@ fn assert_joins<N: Naming>(
     Ok(())
 }
 
+/// The same of each two of the lists, and of some with seeks.
+fn assert_all_joins<N: Naming>(
+    rt: &(impl Abort + AllocGlobal),
+    tables: &Tables<(), Global, N>,
+) -> Result<(), Fail> {
+    for left in LISTS {
+        for right in LISTS {
+            assert_joins(rt, tables, left, right, NEVER)?;
+        }
+    }
+    for to in [0, 1, 6, 7, 5_000, 9_998, 9_999, 14_997, 14_998, u64::MAX] {
+        assert_joins(rt, tables, LISTS[2], LISTS[4], Seek { after: 0, to })?;
+        assert_joins(rt, tables, LISTS[2], LISTS[4], Seek { after: 100, to })?;
+        assert_joins(rt, tables, LISTS[1], LISTS[3], Seek { after: 0, to })?;
+    }
+    Ok(())
+}
+
 fn joins_of_prefixes<N: Naming>(
     rt: &(impl Abort + AllocGlobal + Wait),
     registry: &Registry<(), Global>,
@@ -199,17 +228,9 @@ fn joins_of_prefixes<N: Naming>(
     requires here { registry.now ≡ N.shelf 4 }
 {
     let tables = row::<N, _>(rt, rt.alloc(), registry, Layout::Spread)?;
-    for left in LISTS {
-        for right in LISTS {
-            assert_joins(rt, &tables, left, right, NEVER)?;
-        }
-    }
-    for to in [0, 1, 6, 7, 5_000, 9_998, 9_999, 14_997, 14_998, u64::MAX] {
-        assert_joins(rt, &tables, LISTS[2], LISTS[4], Seek { after: 0, to })?;
-        assert_joins(rt, &tables, LISTS[2], LISTS[4], Seek { after: 100, to })?;
-        assert_joins(rt, &tables, LISTS[1], LISTS[3], Seek { after: 0, to })?;
-    }
-    Ok(())
+    let tried = assert_all_joins(rt, &tables);
+    drop(tables);
+    tried
 }
 
 #[test]
@@ -235,7 +256,7 @@ fn assert_same(
 /// A prefix that expects its rows at places gives what one does that expects them nowhere, before a seek and after it.
 fn assert_expecting<N: Naming>(
     rt: &impl Abort,
-    tables: &Tables<'_, (), Global, N>,
+    tables: &Tables<(), Global, N>,
     value: u128,
     direction: Direction,
     to: u64,
@@ -299,7 +320,7 @@ fn read_each(prefix: &mut Prefix<'_, (), Global>, room: &mut [u64; 10]) -> Resul
 /// Ten timestamps of twenty tables search two of them at most, whichever way they are read.
 fn assert_few_searched<N: Naming>(
     rt: &impl Abort,
-    tables: &Tables<'_, (), Global, N>,
+    tables: &Tables<(), Global, N>,
     direction: Direction,
     is_moved: bool,
 ) -> Result<(), Fail> {
@@ -327,7 +348,7 @@ fn assert_few_searched<N: Naming>(
 /// What is at hand behind the first timestamp searches no table but that timestamp's.
 fn assert_some_search_one<N: Naming>(
     rt: &impl Abort,
-    tables: &Tables<'_, (), Global, N>,
+    tables: &Tables<(), Global, N>,
     direction: Direction,
 ) {
     let mut prefix = Prefix::new(tables, 1, direction);
@@ -342,6 +363,20 @@ fn assert_some_search_one<N: Naming>(
     assert_eq!(rt; closed.saturating_sub(prefix.unsearched()), 1);
 }
 
+/// The same in both directions, and however they are read.
+fn assert_few_are_searched<N: Naming>(
+    rt: &impl Abort,
+    tables: &Tables<(), Global, N>,
+) -> Result<(), Fail> {
+    for direction in [Direction::Rising, Direction::Falling] {
+        for is_moved in [false, true] {
+            assert_few_searched(rt, tables, direction, is_moved)?;
+        }
+        assert_some_search_one(rt, tables, direction);
+    }
+    Ok(())
+}
+
 fn few_timestamps<N: Naming>(
     rt: &(impl Abort + AllocGlobal + Wait),
     registry: &Registry<(), Global>,
@@ -349,13 +384,9 @@ fn few_timestamps<N: Naming>(
     requires here { registry.now ≡ N.shelf 4 }
 {
     let tables = row::<N, _>(rt, rt.alloc(), registry, Layout::InTurn)?;
-    for direction in [Direction::Rising, Direction::Falling] {
-        for is_moved in [false, true] {
-            assert_few_searched(rt, &tables, direction, is_moved)?;
-        }
-        assert_some_search_one(rt, &tables, direction);
-    }
-    Ok(())
+    let tried = assert_few_are_searched(rt, &tables);
+    drop(tables);
+    tried
 }
 
 #[test]
@@ -369,7 +400,7 @@ fn few_timestamps_search_few_tables(rt: HostRuntime) -> Result<(), Fail> {
 /// A join of two prefixes, all of it in one heap: a box for each prefix, and two for the join.
 fn join_in<'r, 'h, N: Naming>(
     heap: &'h LocalHeap,
-    tables: &Tables<'r, (), Global, N>,
+    tables: &'r Tables<(), Global, N>,
 ) -> Result<Scan<Prefix<'r, (), Global>, &'h LocalHeap>, Refusal> {
     let left = Scan::leaf(heap, Prefix::new(tables, 1, Direction::Rising))?;
     let right = Scan::leaf(heap, Prefix::new(tables, 1, Direction::Rising))?;
@@ -377,16 +408,13 @@ fn join_in<'r, 'h, N: Naming>(
 }
 
 /// How many heaps, each greater than the one before, are too small for a join of two prefixes.
-fn count_refusals<N: Naming>(
-    rt: &(impl Abort + AllocGlobal + Wait),
-    registry: &Registry<(), Global>,
-) -> Result<usize, Fail>
-    requires here { registry.now ≡ N.shelf 4 }
-{
-    let tables = row::<N, _>(rt, rt.alloc(), registry, Layout::InTurn)?;
+fn count_too_small<N: Naming>(
+    rt: &(impl Abort + AllocGlobal),
+    tables: &Tables<(), Global, N>,
+) -> Result<usize, Fail> {
     for tries in 0..64usize {
         let heap = LocalHeap::new(rt.alloc(), tries * 128)?;
-        match join_in(&heap, &tables) {
+        match join_in(&heap, tables) {
             Err(refusal) => {
                 assert_eq!(rt; refusal, Refusal::NoMemory);
                 assert_eq!(rt; heap.used(), 0);
@@ -398,6 +426,18 @@ fn count_refusals<N: Naming>(
         }
     }
     Err(Fail::new("the join never succeeds"))
+}
+
+fn count_refusals<N: Naming>(
+    rt: &(impl Abort + AllocGlobal + Wait),
+    registry: &Registry<(), Global>,
+) -> Result<usize, Fail>
+    requires here { registry.now ≡ N.shelf 4 }
+{
+    let tables = row::<N, _>(rt, rt.alloc(), registry, Layout::InTurn)?;
+    let refusals = count_too_small(rt, &tables);
+    drop(tables);
+    refusals
 }
 
 #[test]

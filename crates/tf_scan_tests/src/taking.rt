@@ -8,7 +8,7 @@ use std::marker::Brand;
 use std::process::Abort;
 use std::sync::Wait;
 use std::test::Fail;
-use tf_manifest::{Naming, Registry, Tables};
+use tf_registry::{Naming, Registry, Tables};
 use tf_scan::{Direction, Leaf, Prefix, Scan};
 
 const DIRECTIONS: [Direction; 2] = [Direction::Rising, Direction::Falling];
@@ -75,7 +75,7 @@ fn lists_are_moved_in_parts(rt: HostRuntime) -> Result<(), Fail> {
 /// A prefix of the row moves its list, over tombstones and covered rows.
 fn assert_prefix_moves<N: Naming>(
     rt: &(impl Abort + AllocGlobal),
-    tables: &Tables<'_, (), Global, N>,
+    tables: &Tables<(), Global, N>,
     list: Multiples,
     direction: Direction,
     room: &mut [u64],
@@ -87,6 +87,22 @@ fn assert_prefix_moves<N: Naming>(
     Ok(())
 }
 
+/// The same of all lists, in both directions and so many timestamps at once.
+fn assert_prefixes_move<N: Naming>(
+    rt: &(impl Abort + AllocGlobal),
+    tables: &Tables<(), Global, N>,
+) -> Result<(), Fail> {
+    for list in LISTS {
+        for size in [0, 1, 2, 4_999, 5_000, 5_001] {
+            let mut room = vec![in rt.alloc(); 0; size]?;
+            for direction in DIRECTIONS {
+                assert_prefix_moves(rt, tables, list, direction, &mut room)?;
+            }
+        }
+    }
+    Ok(())
+}
+
 fn prefixes_in_parts<N: Naming>(
     rt: &(impl Abort + AllocGlobal + Wait),
     registry: &Registry<(), Global>,
@@ -94,15 +110,9 @@ fn prefixes_in_parts<N: Naming>(
     requires here { registry.now ≡ N.shelf 4 }
 {
     let tables = row::<N, _>(rt, rt.alloc(), registry, Layout::Spread)?;
-    for list in LISTS {
-        for size in [0, 1, 2, 4_999, 5_000, 5_001] {
-            let mut room = vec![in rt.alloc(); 0; size]?;
-            for direction in DIRECTIONS {
-                assert_prefix_moves(rt, &tables, list, direction, &mut room)?;
-            }
-        }
-    }
-    Ok(())
+    let tried = assert_prefixes_move(rt, &tables);
+    drop(tables);
+    tried
 }
 
 #[test]
@@ -136,9 +146,9 @@ fn timestamps_from<A: Allocator>(
 }
 
 /// What tables of a hundred timestamps each have from one timestamp on.
-fn assert_tables_move<N: Naming>(
+fn assert_tables_move_from<N: Naming>(
     rt: &(impl Abort + AllocGlobal),
-    tables: &Tables<'_, (), Global, N>,
+    tables: &Tables<(), Global, N>,
     from: u64,
     direction: Direction,
     room: &mut [u64],
@@ -151,6 +161,22 @@ fn assert_tables_move<N: Naming>(
     Ok(())
 }
 
+/// The same from several timestamps on, in both directions and so many at once.
+fn assert_tables_move<N: Naming>(
+    rt: &(impl Abort + AllocGlobal),
+    tables: &Tables<(), Global, N>,
+) -> Result<(), Fail> {
+    for from in [0, 99, 100, 1_095, 1_999] {
+        for size in [1, 99, 100, 101, 2_000] {
+            let mut room = vec![in rt.alloc(); 0; size]?;
+            for direction in DIRECTIONS {
+                assert_tables_move_from(rt, tables, from, direction, &mut room)?;
+            }
+        }
+    }
+    Ok(())
+}
+
 fn tables_in_parts<N: Naming>(
     rt: &(impl Abort + AllocGlobal + Wait),
     registry: &Registry<(), Global>,
@@ -158,15 +184,9 @@ fn tables_in_parts<N: Naming>(
     requires here { registry.now ≡ N.shelf 4 }
 {
     let tables = row::<N, _>(rt, rt.alloc(), registry, Layout::InTurn)?;
-    for from in [0, 99, 100, 1_095, 1_999] {
-        for size in [1, 99, 100, 101, 2_000] {
-            let mut room = vec![in rt.alloc(); 0; size]?;
-            for direction in DIRECTIONS {
-                assert_tables_move(rt, &tables, from, direction, &mut room)?;
-            }
-        }
-    }
-    Ok(())
+    let tried = assert_tables_move(rt, &tables);
+    drop(tables);
+    tried
 }
 
 #[test]

@@ -1,5 +1,7 @@
 -- An install leaves the limit of pushes, and a job that was just picked stands in its row.
-use Rattle.std.proofs.Common.{◌≡◌, ◌+◌, ℕ, List, Result, Ok, IfErr, length, refl, subst, sym, ap, ◌∙◌}
+use Rattle.std.proofs.Common.{◌≡◌, ◌+◌, List, Result, Ok, Err, IfErr, OnErr, OnOk, inl, inr, length, refl, subst, sym, ap, ◌∙◌}
+use Rattle.std.specs.Prelude.{◌⊎◌}
+use Rattle.std.specs.Result.{is_ok}
 use Rattle.tf_manifest.specs.declared.jobs.Job.{Job}
 use Rattle.tf_manifest.specs.declared.jobs.Merged.{Merged}
 use Rattle.tf_manifest.specs.declared.jobs.Merged.TheVariants as merged
@@ -7,14 +9,19 @@ use Rattle.tf_manifest.specs.declared.kind.Kind.{Kind}
 use Rattle.tf_manifest.specs.declared.kind.Kind.TheVariants as kind
 use Rattle.tf_manifest.specs.declared.row.Row.{Row}
 use Rattle.tf_manifest.specs.Jobs.{InstallsIn, IsPickedFrom, StandsIn, job_of, kind_of_job, kind_of_merged, output_of, run_of}
-use Rattle.tf_manifest.specs.Limit.{Pushed, one_more}
-use Rattle.tf_manifest.specs.Run.{Stands}
-use Rattle.tf_manifest.specs.Table.{Shown}
+use Rattle.tf_registry.specs.declared.uninstalled.Uninstalled.{Uninstalled}
+use Rattle.tf_registry.specs.declared.uninstalled.Uninstalled.TheVariants as uninstalled
+use Rattle.tf_registry.specs.Install.{OnFull, OnStale}
+use Rattle.tf_registry.specs.Limit.{Pushed, one_more}
+use Rattle.tf_registry.specs.Run.{Stands}
+use Rattle.tf_registry.specs.Table.{Shown}
 use Rattle.tf_manifest.specs.View.{StoredBy, tables_by, with_rows}
 use Rattle.tf_manifest.specs.View as manifest
 use Rattle.tf_records.specs.declared.refusal.Refusal.{Refusal}
+use Rattle.tf_records.specs.declared.refusal.Refusal.TheVariants as refusal
 use Rattle.tf_rows.specs.declared.counts.Counts.{Counts}
 use Rattle.tf_forest.specs.Forest.{View}
+use Rattle.tf_store.specs.Store as store
 use Rattle.tf_served.specs.Served.{IsCompacted, IsFull, Stays}
 
 -- other rows leave what was pushed
@@ -60,7 +67,7 @@ nothing_merged old new result same full = record {
 }
 
 -- a merged table was put in place
-pub table_installed : {X A N : Type 0} (old new : View) (m : Merged A N) (x : X) → new.journal ≡ old.journal → new.clock ≡ old.clock → InstallsIn old.sealed.tables m new.sealed.tables
+table_installed : {X A N : Type 0} (old new : View) (m : Merged A N) (x : X) → new.journal ≡ old.journal → new.clock ≡ old.clock → InstallsIn old.sealed.tables m new.sealed.tables
     → new.sealed.counts ≡ record old.sealed.counts { rows_held = old.sealed.counts.rows_held + length (output_of m).table.rows }
     → IsCompacted old new (Ok x)
 table_installed old new m x journal clock installs counts = record {
@@ -72,6 +79,52 @@ table_installed old new m x journal clock installs counts = record {
   };
   refused = tt;
 }
+
+-- a table that stands isn't stale
+pub never_stale : {M : Type 0} (answer : Result (Unit {0}) (Uninstalled M)) (P : Type 0) → IfErr answer (λ e. OnStale e (P → ⊥)) → P → IfErr answer (λ e. OnStale e ⊥)
+never_stale (Ok done) P stale stands = tt
+never_stale (Err (uninstalled.NoMemory m)) P stale stands = tt
+never_stale (Err uninstalled.Stale) P stale stands = stale stands
+never_stale (Err uninstalled.RegistryFull) P stale stands = tt
+
+-- only a full registry is told as one
+full_if_told : {M : Type 0} (old new : View) (answer : Result (Unit {0}) (Uninstalled M)) (e : Uninstalled M) (r : Refusal) (P : Type 0) → answer ≡ Err e → new ≡ old
+    → OnFull e (P × (old.sealed.tables.pushed.count ≡ old.sealed.tables.pushed.limit))
+    → (r ≡ refusal.NoMemory) ⊎ ((r ≡ refusal.RegistryFull) × (answer ≡ Err uninstalled.RegistryFull)) → IsFull new r
+full_if_told old new answer e r P was same full (inl is) = subst (IsFull new) (sym is) tt
+full_if_told old new answer uninstalled.RegistryFull r P was same full (inr (is, told)) =
+    subst (IsFull new) (sym is) (subst (λ (v : View). v.sealed.tables.pushed.count ≡ v.sealed.tables.pushed.limit) (sym same) full.1)
+full_if_told old new answer (uninstalled.NoMemory m) r P was same full (inr (is, told)) = absurd (cc)
+full_if_told old new answer uninstalled.Stale r P was same full (inr (is, told)) = absurd (cc)
+
+-- an install answered
+pub install_answered : {X A N : Type 0} (old new : store.View) (m : Merged A N) (answer : Result (Unit {0}) (Uninstalled (Merged A N))) (result : Result X Refusal) (P : Type 0)
+    → is_ok result ≡ is_ok answer
+    → new.forest.journal ≡ old.forest.journal → new.forest.clock ≡ old.forest.clock
+    → OnOk answer (InstallsIn old.forest.sealed.tables m new.forest.sealed.tables)
+    → OnOk answer (new.forest.sealed.counts ≡ record old.forest.sealed.counts { rows_held = old.forest.sealed.counts.rows_held + length (output_of m).table.rows })
+    → OnErr answer (new ≡ old)
+    → IfErr answer (λ e. OnFull e (P × (old.forest.sealed.tables.pushed.count ≡ old.forest.sealed.tables.pushed.limit)))
+    → IfErr result (λ r. (r ≡ refusal.NoMemory) ⊎ ((r ≡ refusal.RegistryFull) × (answer ≡ Err uninstalled.RegistryFull)))
+    → IsCompacted old.forest new.forest result
+install_answered old new m (Ok done) (Ok x) P alike journal clock installs counts same full told = table_installed old.forest new.forest m x journal clock installs counts
+install_answered old new m (Ok done) (Err r) P alike journal clock installs counts same full told = absurd (cc)
+install_answered old new m (Err e) (Ok x) P alike journal clock installs counts same full told = absurd (cc)
+install_answered old new m (Err e) (Err r) P alike journal clock installs counts same full told =
+    let still = ap (λ (v : store.View). v.forest) same in
+    nothing_merged old.forest new.forest (Err r) still (full_if_told old.forest new.forest (Err e) e r P refl still full told)
+
+-- and pushed a table, if it was put in place, for which there was room
+pub install_pushed : {X A N : Type 0} (old new : manifest.View) (m : Merged A N) (answer : Result (Unit {0}) (Uninstalled (Merged A N))) (result : Result X Refusal)
+    → is_ok result ≡ is_ok answer → OnOk answer (InstallsIn old m new) → OnOk result (new.pushed.count ≡ old.pushed.count + 1)
+install_pushed old new m (Ok done) (Ok x) alike installs = ap (λ (p : Pushed). p.count) (install_pushes old new m installs)
+install_pushed old new m (Err e) (Ok x) alike installs = absurd (cc)
+install_pushed old new m answer (Err r) alike installs = tt
+
+pub answered_as : {X Y E F : Type 0} (result : Result X E) (answer : Result Y F) (P : Type 0) → is_ok result ≡ is_ok answer → OnOk answer P → OnOk result P
+answered_as (Ok x) (Ok y) P alike p = p
+answered_as (Ok x) (Err e) P alike p = absurd (cc)
+answered_as (Err e) answer P alike p = tt
 
 -- what was left before is left still
 pub stays_on : (old mid new : View) → Stays old mid → Stays mid new → Stays old new

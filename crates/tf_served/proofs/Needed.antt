@@ -1,5 +1,5 @@
 -- A publish needs 42 tables at most: two for each row.
-use Rattle.std.proofs.Common.{arith, ◌≤◌, ◌+◌, ◌*◌, ◌==◌, ◌≡◌, ℕ, List, [], ◌∷◌, Bool, true, false, Option, length, subst, sym}
+use Rattle.std.proofs.Common.{arith, ◌≤◌, ◌*◌, ◌==◌, ◌≡◌, ℕ, List, [], ◌∷◌, Bool, true, false, Option, length, subst, sym}
 use Rattle.std.specs.Prelude.{if◌then◌else◌}
 use Rattle.tf_table.specs.declared.key.Key.{Key}
 use Rattle.tf_manifest.specs.declared.row.Row.{Row}

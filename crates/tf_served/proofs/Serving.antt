@@ -1,16 +1,15 @@
 -- What a store's calls leave, as what a script's commands ask for.
-use Rattle.std.proofs.Common.{arith, ◌≡◌, ◌≢◌, ◌<◌, ◌≤◌, ◌+◌, ◌*◌, ◌&&◌, ◌==◌, ℕ, List, Bool, true, false, Option, Some, None, Result, Ok, Err, OnOk, OnErr, IfOk, IfErr, IsOk, MatchOption, ap, subst, sym, refl, ◌∙◌}
+use Rattle.std.proofs.Common.{arith, ◌≡◌, ◌≢◌, ◌<◌, ◌≤◌, ◌+◌, ◌&&◌, ◌==◌, ℕ, Bool, true, false, Option, Some, None, Result, Ok, Err, IfErr, MatchOption, ap, subst, sym, refl, inl, inr}
 use Rattle.std.specs.Prelude.{if◌then◌else◌, nat_le}
 use Rattle.std.proofs.lemmas.Bool.{le-leb}
 use Rattle.tf_records.specs.declared.refusal.Refusal.{Refusal}
 use Rattle.tf_records.specs.declared.refusal.Refusal.TheVariants as refusal
 use Rattle.tf_script.specs.Command.{Command, accounts, transfers, pulse, publish, compact, query, lookup_accounts, lookup_transfers}
-use Rattle.tf_rows.specs.Counts.{AreBounded, with_lost}
+use Rattle.tf_rows.specs.Counts.{AreBounded}
 use Rattle.tf_forest.specs.Forest.{View}
-use Rattle.tf_forest.specs.Unpublished.{IsUnpublished}
-use Rattle.tf_store.specs.Publish.{IsPublish}
+use Rattle.tf_store.specs.Publish.{IsPublish, IsTaken}
 use Rattle.tf_main.specs.Engine.{MayBeRefused}
-use Rattle.tf_main.specs.Script.{asks_memory, can_be_full, publishes, pushes, refusal_of}
+use Rattle.tf_main.specs.Script.{asks_memory, publishes, pushes, refusal_of}
 use Rattle.tf_served.specs.Served.{IsCompacted, IsFull, IsRead, IsRefused, Serves}
 
 -- over sealed tables every command may ask for memory
@@ -144,6 +143,18 @@ read_of_publish old new (Err r) bounded few limit published = record {
   limit = published.limit;
   publishes = one_publish _ _ (published.err.loses.tables == 0) (ap (λ s. s.counts.publishes) published.err.loses.is);
   refused = publish_refused old new r bounded few limit (λ is. published.full (ap Err is)) published.refused;
+}
+
+-- and of one that gives a version
+pub read_of_take : {X : Type 0} (old new : View) (result : Result X Refusal) → AreBounded old.sealed → old.needed ≤ 42 → old.sealed.tables.pushed.limit ≡ 1048576
+    → IsTaken old new result → IsRead old new result
+read_of_take old new result bounded few limit (inl published) = read_of_publish old new result bounded few limit published
+read_of_take old new result bounded few limit (inr (is, idle)) = record {
+  journal = ap (λ (v : View). v.journal) idle.same;
+  clock = ap (λ (v : View). v.clock) idle.same;
+  limit = ap (λ (v : View). v.sealed.tables.pushed.limit) idle.same;
+  publishes = omega (arith, ap (λ (v : View). v.sealed.counts.publishes) idle.same);
+  refused = subst (λ r. IfErr r (IsRefused old.sealed.counts.publishes)) (sym is) tt;
 }
 
 -- whatever it gives, if it isn't refused

@@ -1,6 +1,5 @@
 -- What the calls of a store leave that store nothing.
-use Rattle.std.specs.Prelude.{◌≡◌, ◌+◌, ◌<◌, ◌≤◌, ◌⊎◌, ℕ, List, Option, Result, IfErr, true}
-use Rattle.std.specs.Io.KnownBytes.{Keeps}
+use Rattle.std.specs.Prelude.{◌≡◌, ◌+◌, ◌≤◌, ℕ, List, Option, Result, IfErr, true}
 use Rattle.tf_records.specs.declared.refusal.Refusal.{Refusal}
 use Rattle.tf_records.specs.declared.refusal.Refusal.TheVariants as refusal
 use Rattle.tf_forest.specs.Forest.{View}

@@ -18,12 +18,12 @@ use tf_rows::SealRows;
 use tf_script::{Command, Query};
 use tf_store::{StoreName, VersionCopies};
 
-impl<'s, 'r, T, A, S, C, W> Served<'s, Forest<Rows<'r, T, A, S>, A>, A, S, C, W>
+impl<'s, T, A, S, C, W> Served<'s, Forest<Rows<T, A, S>, A>, A, S, C, W>
 where
     T: SealRows<A> + Drop,
     A: Allocator + Copy,
     S: StoreName,
-    C: VersionCopies<Version<'r, A, S>, S> + Drop,
+    C: VersionCopies<Version<A, S>, S> + Drop,
     W: Wait,
 {
     /// Runs commands by a store that nothing was stored in, one after another up to the first fault, and writes what they

@@ -1,5 +1,5 @@
 //! Runs scripts over a store of their own.
-ghost use Rattle.std.specs.Prelude.{◌≡◌, [], true, vec_len, OnOk, IfErr};
+ghost use Rattle.std.specs.Prelude.{◌≡◌, [], true, vec_len, OnOk, IfErr, IfOk};
 ghost use Rattle.tf_manifest.specs.Registries.{AreShelves};
 ghost use Rattle.tf_script.specs.CommandViews.{commands_of};
 ghost use Rattle.tf_main.specs.Script.{FaultTells, HasAnswered, IsAnswered};
@@ -15,11 +15,11 @@ use std::sync::Wait;
 use tf_main::{RunFault, read_script};
 use tf_manifest::Registries;
 use tf_query::Version;
-use tf_readers::{Publishable, VersionOf};
+use tf_readers::{Copies, Publishable, Reader};
 use tf_records::Refusal;
 use tf_rows::{EmptyRows, MutableTables, SealRows};
 use tf_script::Command;
-use tf_store::{BlankStore, NewStore, Share, Store, StoreName, StoreOf, VersionCopies};
+use tf_store::{BlankStore, Share, Store, StoreName, StoreOf, VersionCopies, VersionOf};
 
 /// Runs a script over an empty store and writes what its commands print. The whole script is read before any of it is run.
 ///
@@ -89,15 +89,21 @@ fn run_named<S: StoreName, R: Wait, A: Allocator + Copy + Drop, B: Allocator, W:
     ensures answered { OnOk result (HasAnswered true (commands_of commands.now) (W.contents out.old) (W.contents out.new)) }
     ensures fault { IfErr result (StopsServing (commands_of commands.now) (W.contents out.old) (W.contents out.new)) }
 {
-    run_with_version::<MutableTables<A>, A, S, R, B, W>(rt, alloc, registries, blank, commands, out)
+    run_with_rows::<MutableTables<A>, A, S, R, B, W>(rt, alloc, registries, blank, commands, out)
 }
 
-/// Runs commands over a store whose readers read versions. All below is generic in the version, so that no check compares
-/// all that it is made of.
-fn run_with_version<'r, T, A, S, R, B, W>(
+/// A new store that shows readers versions of type `V`, its shares, and its readers.
+type OpenedStore<T, V, A, S, R> = (
+    StoreOf<T, Copies<V, A, S, R>, A, S>,
+    Vec<Share<S>, A>,
+    Vec<Reader<V, A, S>, A>,
+);
+
+/// Makes a store with one share and one reader, which nobody asks, and runs commands over it.
+fn run_with_rows<T, A, S, R, B, W>(
     rt: &R,
     alloc: A,
-    registries: &'r Registries<A>,
+    registries: &Registries<A>,
     blank: BlankStore,
     commands: &[Command<B>],
     out: &mut W,
@@ -118,54 +124,84 @@ where
     ensures answered { OnOk result (HasAnswered true (commands_of commands.now) (W.contents out.old) (W.contents out.new)) }
     ensures fault { IfErr result (StopsServing (commands_of commands.now) (W.contents out.old) (W.contents out.new)) }
 {
-    run_with_rows::<T, A, S, Version<'r, A, S>, R, B, W>(
-        rt, alloc, registries, blank, commands, out,
+    serve_versions::<T, A, S, Version<A, S>, R, B, W>(
+        rt,
+        alloc,
+        Store::new(alloc, rt, registries, blank, 1, 1),
+        commands,
+        out,
     )
 }
 
-/// Makes a store with one share and one reader, which nobody asks, and runs commands over it.
-fn run_with_rows<'r, T, A, S, V, R, B, W>(
+/// Runs commands over a new store, if there was memory for it. It is generic in the version that readers are shown.
+fn serve_versions<T, A, S, V, R, B, W>(
     rt: &R,
     alloc: A,
-    registries: &'r Registries<A>,
-    blank: BlankStore,
+    opened: Result<OpenedStore<T, V, A, S, &R>, Refusal>,
     commands: &[Command<B>],
     out: &mut W,
 ) -> Result<(), RunFault>
 where
-    T: EmptyRows<A> + SealRows<A> + Drop,
+    T: SealRows<A> + Drop,
     A: Allocator + Copy,
     S: StoreName,
-    V: VersionOf<Version<'r, A, S>> + Publishable + Drop,
+    V: VersionOf<Version<A, S>> + Publishable + Drop,
     R: Wait,
     B: Allocator,
     W: Write,
-    requires fits { FitsRows T.row }
-    requires name { blank.ledger.name ≡ S.name }
-    requires parts { (blank.ledger.parts ≡ S.parts) × (S.parts ≡ 1) }
-    requires history { blank.history ≡ S.history }
-    requires registries { AreShelves S.shelf registries.now }
-    requires limit { registries.now.limit ≡ 1048576 }
+    requires shares { IfOk opened (λ o. vec_len o.1 ≡ 1) }
+    requires limit { IfOk opened (λ o. o.0.forest.sealed.tables.pushed.limit ≡ 1048576) }
+    requires journal { IfOk opened (λ o. o.0.forest.journal ≡ []) }
+    requires clock { IfOk opened (λ o. o.0.forest.clock ≡ 0) }
+    requires published { IfOk opened (λ o. o.0.forest.sealed.counts.publishes ≡ 0) }
     ensures answered { OnOk result (HasAnswered true (commands_of commands.now) (W.contents out.old) (W.contents out.new)) }
     ensures fault { IfErr result (StopsServing (commands_of commands.now) (W.contents out.old) (W.contents out.new)) }
 {
-    let opened: Result<NewStore<'r, T, V, A, S, &R>, Refusal> = Store::new(
-        alloc, rt, registries, blank, 1, 1,
-    );
+    serve_opened(rt, alloc, opened, commands, out)
+}
+
+/// Runs commands over a new store, if there was memory for it. Nobody asks its readers. It is generic in them and in what they
+/// enter, so that no check takes those apart.
+fn serve_opened<T, A, S, C, D, R, B, W>(
+    rt: &R,
+    alloc: A,
+    opened: Result<(StoreOf<T, C, A, S>, Vec<Share<S>, A>, D), Refusal>,
+    commands: &[Command<B>],
+    out: &mut W,
+) -> Result<(), RunFault>
+where
+    T: SealRows<A> + Drop,
+    A: Allocator + Copy,
+    S: StoreName,
+    C: VersionCopies<Version<A, S>, S> + Drop,
+    D: Drop,
+    R: Wait,
+    B: Allocator,
+    W: Write,
+    requires shares { IfOk opened (λ o. vec_len o.1 ≡ 1) }
+    requires limit { IfOk opened (λ o. o.0.forest.sealed.tables.pushed.limit ≡ 1048576) }
+    requires journal { IfOk opened (λ o. o.0.forest.journal ≡ []) }
+    requires clock { IfOk opened (λ o. o.0.forest.clock ≡ 0) }
+    requires published { IfOk opened (λ o. o.0.forest.sealed.counts.publishes ≡ 0) }
+    ensures answered { OnOk result (HasAnswered true (commands_of commands.now) (W.contents out.old) (W.contents out.new)) }
+    ensures fault { IfErr result (StopsServing (commands_of commands.now) (W.contents out.old) (W.contents out.new)) }
+{
     match opened {
         Ok((store, shares, _readers)) => {
             let mut store = store;
-            serve(rt, alloc, &mut store, shares, commands, out)
+            let ended = serve(rt, alloc, &mut store, shares, commands, out);
+            drop(store);
+            ended
         }
         Err(_) => Err(RunFault::NoMemory),
     }
 }
 
-/// Runs commands over a store that nothing was stored in. It is generic in what readers enter.
-fn serve<'r, T, A, S, C, R, B, W>(
+/// Runs commands over a store that nothing was stored in.
+fn serve<T, A, S, C, R, B, W>(
     rt: &R,
     alloc: A,
-    store: &mut StoreOf<'r, T, C, A, S>,
+    store: &mut StoreOf<T, C, A, S>,
     mut shares: Vec<Share<S>, A>,
     commands: &[Command<B>],
     out: &mut W,
@@ -174,7 +210,7 @@ where
     T: SealRows<A> + Drop,
     A: Allocator + Copy,
     S: StoreName,
-    C: VersionCopies<Version<'r, A, S>, S> + Drop,
+    C: VersionCopies<Version<A, S>, S> + Drop,
     R: Wait,
     B: Allocator,
     W: Write,

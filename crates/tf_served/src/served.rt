@@ -43,19 +43,19 @@ pub(crate) struct Served<
     ghost roomy: { store.now.forest.sealed.tables.pushed.limit ≡ 1048576 },
 }
 
-impl<'s, 'r, T, A, S, C, W> Served<'s, Forest<Rows<'r, T, A, S>, A>, A, S, C, W>
+impl<'s, T, A, S, C, W> Served<'s, Forest<Rows<T, A, S>, A>, A, S, C, W>
 where
     T: SealRows<A> + Drop,
     A: Allocator + Copy,
     S: StoreName,
-    C: VersionCopies<Version<'r, A, S>, S> + Drop,
+    C: VersionCopies<Version<A, S>, S> + Drop,
     W: Wait,
 {
     /// A store, served.
     pub(crate) fn new(
         rt: &'s W,
         alloc: A,
-        store: &'s mut StoreOf<'r, T, C, A, S>,
+        store: &'s mut StoreOf<T, C, A, S>,
         share: Share<S>,
     ) -> Self
         requires { store.old.forest.sealed.tables.pushed.limit ≡ 1048576 }
@@ -109,7 +109,7 @@ where
     }
 
     /// Publishes, and gives a version of the journal.
-    fn version(&mut self) -> Result<Version<'r, A, S>, Refusal>
+    fn version(&mut self) -> Result<Version<A, S>, Refusal>
         ensures version { IfOk result (λ version. version ≡ self.old.store.now.forest.journal) }
         ensures read { IsRead self.old.store.now.forest self.new.store.now.forest result }
     {
@@ -166,7 +166,7 @@ where
         }
     }
 
-    /// Merges sealed tables until no row has a run to merge.
+    /// Merges sealed tables until no row has a run to merge, and gives back those that were merged.
     pub(crate) fn compact(&mut self) -> Result<(), Refusal>
         ensures { Serves self.old.store.now.forest self.new.store.now.forest command.compact result }
     {

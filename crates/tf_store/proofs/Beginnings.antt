@@ -1,6 +1,6 @@
 -- What is known of what a store shows.
 use mathlib.Core.List.{IsPrefix}
-use Rattle.std.proofs.Common.{◌≡◌, ℕ, List, sym, subst, take, drop}
+use Rattle.std.proofs.Common.{ℕ, List, take, drop}
 use Rattle.std.proofs.lemmas.List.{take-append-drop}
 use Rattle.std.proofs.lemmas.List.Elements.{All-map, All-weaker}
 use Rattle.std.specs.List.{All}

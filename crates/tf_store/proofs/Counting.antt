@@ -1,11 +1,9 @@
 -- What a batch or a pulse stores is counted by its events and its reply.
 use mathlib.Core.List.{IsPrefix}
-use Rattle.std.proofs.Common.{◌≡◌, ℕ, ◌+◌, ◌≤◌, List, [], ◌∷◌, ◌++◌, Option, Some, None, Bool, true, false, refl, sym, subst, ap, arith, take, length, length-append, length-take-le, append_assoc, append-nil, ◌∙◌, inl, inr}
-use Rattle.std.specs.Prelude.{if◌then◌else◌, map, max, min}
-use Rattle.tf_records.specs.declared.account.Account.{Account}
+use Rattle.std.proofs.Common.{◌≡◌, ℕ, ◌+◌, ◌≤◌, List, [], ◌∷◌, ◌++◌, Option, Some, None, Bool, true, false, refl, sym, subst, ap, arith, take, length, length-append, length-take-le, append_assoc, append-nil, ◌∙◌}
+use Rattle.std.specs.Prelude.{if◌then◌else◌, map, max}
 use Rattle.tf_records.specs.declared.outcome.Outcome.{Outcome}
 use Rattle.tf_records.specs.declared.transfer.Transfer.{Transfer}
-use Rattle.tf_records.specs.declared.reply.Failure.{Failure}
 use Rattle.tf_journal.specs.declared.entry.Entry.{Entry}
 use Rattle.tf_journal.specs.declared.entry.Entry.TheVariants as entry
 use Rattle.tf_journal.specs.Due.{due, expiries_of, pulse_count, pulse_step}

@@ -1,6 +1,6 @@
 -- What always holds of a store goes on to hold when its journal grows, when tables are installed, and when it is published.
 use mathlib.Core.List.{IsPrefix}
-use Rattle.std.proofs.Common.{◌≡◌, ℕ, ◌+◌, ◌≤◌, List, [], ◌∷◌, ◌++◌, refl, sym, subst, ap, arith, take, length, length-append, append-nil, ◌∙◌}
+use Rattle.std.proofs.Common.{◌≡◌, ℕ, ◌≤◌, List, [], ◌∷◌, ◌++◌, refl, sym, subst, ap, arith, take, length, length-append, append-nil, ◌∙◌}
 use Rattle.std.proofs.lemmas.List.{take-append-le}
 use Rattle.std.proofs.lemmas.List.Elements.{All-head, All-nil, All-push, All-same, All-tail, All-weaker}
 use Rattle.std.proofs.Math.Seq.{take-append_seam, take-length}
@@ -10,13 +10,13 @@ use Rattle.tf_records.specs.declared.refusal.Refusal.{Refusal}
 use Rattle.tf_records.specs.declared.reply.Failure.{Failure}
 use Rattle.tf_journal.specs.declared.entry.Entry.{Entry}
 use Rattle.tf_journal.specs.Journal.{last_timestamp, timestamp_of}
-use Rattle.tf_journal.specs.Lawful.{IsLawful, IsLawfulAt, IsSound}
-use Rattle.tf_manifest.specs.View.{ShowsJournal, no_tables, View as Tables}
+use Rattle.tf_journal.specs.Lawful.{IsLawful, IsLawfulAt}
+use Rattle.tf_manifest.specs.View.{ShowsJournal, no_tables}
 use Rattle.tf_rows.specs.Counts.{Sealed, nothing_sealed}
 use Rattle.tf_forest.specs.Forest as forest
 use Rattle.tf_store.specs.Book.{book_of}
 use Rattle.tf_store.specs.Public.{IsPublic, PublicView, all_public, nothing_public}
-use Rattle.tf_store.specs.Receipt.{Batch, IsReceipt, IsRun, ReceiptView, Waiting, Waits, count_of, receipt_of, step_of}
+use Rattle.tf_store.specs.Receipt.{Batch, IsReceipt, IsRun, ReceiptView, Waiting, Waits, receipt_of}
 use Rattle.tf_store.specs.Store.{IsStore}
 use Rattle.tf_store.proofs.Counting.{begins_more, map-append}
 use Rattle.tf_store.proofs.Runs.{Facts, facts, not_due}

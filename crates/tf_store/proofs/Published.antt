@@ -1,8 +1,10 @@
 -- A forest that was prepared, shown and settled is published; and one that was prepared alone is as it was.
 use mathlib.Core.List.{IsPrefix}
-use Rattle.std.proofs.Common.{◌≡◌, ◌≢◌, ◌∙◌, ◌+◌, ◌<◌, ◌≤◌, ℕ, cond, List, Option, Result, Ok, Err, IfErr, refl, length, sym, ap, subst, arith, rules}
+use Rattle.std.proofs.Common.{◌≡◌, ◌≢◌, ◌∙◌, ◌+◌, ◌<◌, ◌≤◌, ℕ, cond, List, Option, Some, None, Result, Ok, Err, IfErr, OnErr, OnOk, inl, inr, refl, length, sym, ap, subst, arith}
 use Rattle.std.specs.Prelude.{◌==◌, if◌then◌else◌, take}
+use Rattle.std.proofs.lemmas.Bool.{false≢true}
 use Rattle.std.proofs.lemmas.List.{length-take-le}
+use Rattle.std.proofs.Math.Seq.{take-length}
 use Rattle.tf_records.specs.declared.refusal.Refusal.{Refusal}
 use Rattle.tf_records.specs.declared.refusal.Refusal.TheVariants.{NoMemory, RegistryFull}
 use Rattle.tf_journal.specs.declared.entry.Entry.{Entry}
@@ -11,20 +13,20 @@ use Rattle.tf_table.specs.declared.key.Key.{Key}
 use Rattle.tf_manifest.specs.declared.kind.Kind.{Kind}
 use Rattle.tf_manifest.specs.declared.kind.Kind.TheVariants as kind
 use Rattle.tf_manifest.specs.declared.row.Row.{Row}
-use Rattle.tf_manifest.specs.declared.value.Value.{Value}
 use Rattle.tf_manifest.specs.Kinds.{kind_of}
-use Rattle.tf_manifest.specs.Limit.{Pushed}
+use Rattle.tf_registry.specs.Limit.{Pushed}
 use Rattle.tf_manifest.specs.View.{ShowsJournal, View as Tables, content_in, value_in_kind}
-use Rattle.tf_rows.specs.Counts.{Counted, IsReady, Loses, Sealed, counted, settled, with_lost}
+use Rattle.tf_rows.specs.Counts.{Counted, IsReady, Sealed, counted, settled}
 use Rattle.tf_publish.specs.Tables.{Publishes, Waits, by_name, nothing_fresh}
 use Rattle.tf_publish.proofs.Tables.{nothing_waits_fresh, nothing_waits_needed}
 use Rattle.tf_forest.specs.Forest.{View}
 use Rattle.tf_forest.specs.Unpublished.{IsUnpublished}
-use Rattle.tf_store.specs.Public.{PublicView}
-use Rattle.tf_store.specs.Publish.{IsPublish}
+use Rattle.tf_forest.proofs.Idle.{publishes_nothing}
+use Rattle.tf_store.specs.Public.{IsPublic, PublicView, all_public}
+use Rattle.tf_store.specs.Publish.{IsIdle, IsPublish, IsTaken}
 use Rattle.tf_store.specs.Receipt.{Waiting}
 use Rattle.tf_store.specs.Store.{IsStore}
-use Rattle.tf_store.proofs.Kept.{public_stays, store_stays}
+use Rattle.tf_store.proofs.Kept.{public_stays, store_stays, whole_beginning}
 
 ok_not_full : {X : Type 0} (x : X) → Ok x ≡ Err RegistryFull → ⊥
 ok_not_full x is = cc
@@ -87,19 +89,22 @@ refused_publish old new refusal lost some full other = record {
   refused = other;
 }
 
--- what is known of a forest that was prepared
+-- where something was prepared, it wasn't that nothing was
+pub some_there : {P : Type 0} (result : Result (Option P) Refusal) (found : Option P) (p : P) → result ≡ Ok found → found ≡ Some p → result ≡ Ok None → ⊥
+some_there result found p was is none = cc
+
+-- what is known of a forest that was prepared, in which something waited
 pub record IsPrepared (old mid : View) (p : Counted) : Type 0 where
   pub lost : IsUnpublished old mid
+  pub some : old.waiting ≡ 0 → ⊥
   pub shows : ShowsJournal p.tables mid.journal
   pub publishes : Publishes (by_name old.fresh) (counted old.sealed) p
   pub pushed : p.tables.pushed.count ≡ old.sealed.tables.pushed.count + old.needed
   pub sealed : p.sealed ≡ old.sealed.counts.rows_sealed + old.waiting
   pub ready : IsReady mid.sealed p
   pub fits : old.sealed.tables.pushed.count + old.needed ≤ old.sealed.tables.pushed.limit
-  pub still : old.waiting ≡ 0 → mid ≡ old
-  pub equal : old.waiting ≡ 0 → p ≡ counted old.sealed
 
-module _ {X : Type 0} (old mid new : View) (p : Counted) (x : X) (is : IsPrepared old mid p) (waits : Waits old.fresh old.sealed.tables old.needed old.waiting)
+module _ {X : Type 0} (old mid new : View) (p : Counted) (x : X) (is : IsPrepared old mid p)
     (done : new ≡ record mid { sealed = settled p mid.sealed; fresh = nothing_fresh; needed = 0; waiting = 0 }) where
   publishes_more : new.sealed.counts.publishes ≡ old.sealed.counts.publishes + (if old.needed == 0 then 0 else 1)
   publishes_more =
@@ -115,17 +120,6 @@ module _ {X : Type 0} (old mid new : View) (p : Counted) (x : X) (is : IsPrepare
   rows_published =
       subst (λ (v : View). Publishes (by_name old.fresh) (counted old.sealed) (counted v.sealed)) (sym done)
       (subst (λ (h : ℕ). Publishes (by_name old.fresh) (counted old.sealed) (record { tables = p.tables; sealed = p.sealed; held = h })) is.ready.held is.publishes)
-
-  all_still : old.waiting ≡ 0 → new ≡ old
-  all_still none =
-      let fresh = nothing_waits_fresh old.fresh old.sealed.tables old.needed old.waiting waits none in
-      let needed = nothing_waits_needed old.fresh old.sealed.tables old.needed old.waiting waits none in
-      done
-      ∙ ap (λ (v : View). record v { sealed = settled p v.sealed; fresh = nothing_fresh; needed = 0; waiting = 0 }) (is.still none)
-      ∙ ap (λ (q : Counted). record old { sealed = settled q old.sealed; fresh = nothing_fresh; needed = 0; waiting = 0 }) (is.equal none)
-      ∙ ap (λ (w : ℕ). record old { fresh = nothing_fresh; needed = 0; waiting = w }) (sym none)
-      ∙ ap (λ (n : ℕ). record old { fresh = nothing_fresh; needed = n }) (sym needed)
-      ∙ ap (λ (f : List (List (Key × Option Value))). record old { fresh = f }) (sym fresh)
 
   -- once it is settled, it is published
   pub settled_publish : IsPublish {X = X} old new (Ok x)
@@ -144,10 +138,46 @@ module _ {X : Type 0} (old mid new : View) (p : Counted) (x : X) (is : IsPrepare
     fits = is.fits;
     err = tt;
     idle = λ none. refl;
-    still = all_still;
+    still = λ none. absurd (is.some none);
     full = λ (bad : Ok x ≡ Err RegistryFull). absurd (ok_not_full x bad);
     refused = tt;
   }
+
+-- a forest in which nothing waits is published already
+pub idle_publish : {X : Type 0} (old new : View) (x : X) → Waits old.fresh old.sealed.tables old.needed old.waiting → IsIdle old new
+    → ShowsJournal old.sealed.tables old.journal → old.sealed.tables.pushed.count + old.needed ≤ old.sealed.tables.pushed.limit → IsPublish {X = X} old new (Ok x)
+idle_publish {X = X} old new x waits idle shows fits =
+    let fresh : old.fresh ≡ nothing_fresh = nothing_waits_fresh old.fresh old.sealed.tables old.needed old.waiting waits idle.none in
+    let needed : old.needed ≡ 0 = nothing_waits_needed old.fresh old.sealed.tables old.needed old.waiting waits idle.none in
+    let none : old.waiting ≡ 0 = idle.none in
+    let more : old.sealed.counts.publishes ≡ old.sealed.counts.publishes + cond (0 == 0) 0 1 = omega arith in
+    subst (λ (v : View). IsPublish {X = X} old v (Ok x)) (sym idle.same) (record {
+      journal = refl;
+      clock = refl;
+      kept = refl;
+      limit = refl;
+      shows = shows;
+      rows = publishes_nothing (by_name old.fresh) (counted old.sealed) (sym waits.waiting ∙ none);
+      empty = fresh;
+      all = (needed, none);
+      pushed = omega (arith, needed);
+      sealed = omega (arith, none);
+      publishes = more ∙ ap (λ (n : ℕ). old.sealed.counts.publishes + cond (n == 0) 0 1) (sym needed);
+      fits = fits;
+      err = tt;
+      idle = λ _. refl;
+      still = λ _. refl;
+      full = λ (bad : Ok x ≡ Err RegistryFull). absurd (ok_not_full x bad);
+      refused = tt;
+    })
+
+-- and where all of its journal is shown, readers see all of it
+pub all_is_seen : (forest : View) (public : PublicView) → IsPublic forest public → public.shown ≡ length forest.journal → public ≡ all_public forest.journal
+all_is_seen forest public is all =
+    let seen : List Entry → ℕ → List Entry → PublicView = λ front shown readable. record { front = front; shown = shown; readable = readable } in
+    let front : public.front ≡ forest.journal = whole_beginning public.front forest.journal is.begins (omega (arith, is.shown, all)) in
+    let readable : public.readable ≡ forest.journal = is.readable ∙ ap (λ n. take n forest.journal) all ∙ take-length forest.journal in
+    ap (λ l. seen l public.shown public.readable) front ∙ ap (λ n. seen forest.journal n public.readable) all ∙ ap (λ l. seen forest.journal (length forest.journal) l) readable
 
 -- whatever was answered with it
 pub published_as : {X Y : Type 0} (old new : View) (x : X) (y : Y) → IsPublish {X = X} old new (Ok x) → IsPublish {X = Y} old new (Ok y)
@@ -170,6 +200,45 @@ published_as old new x y is = record {
   full = λ bad. absurd (ok_not_full y bad);
   refused = tt;
 }
+
+-- and so is a refusal
+pub refused_as : {X Y : Type 0} (old new : View) (refusal : Refusal) → IsPublish {X = X} old new (Err refusal) → IsPublish {X = Y} old new (Err refusal)
+refused_as {X = X} {Y = Y} old new refusal is = record {
+  journal = is.journal;
+  clock = is.clock;
+  kept = is.kept;
+  limit = is.limit;
+  shows = tt;
+  rows = tt;
+  empty = tt;
+  all = tt;
+  pushed = tt;
+  sealed = tt;
+  publishes = tt;
+  fits = tt;
+  err = is.err;
+  idle = λ none. absurd (false≢true (is.idle none));
+  still = is.still;
+  full = λ bad. is.full (same_refusal refusal bad);
+  refused = is.refused;
+} where
+  same_refusal : (r : Refusal) → err_of Y r ≡ Err RegistryFull → err_of X r ≡ Err RegistryFull
+  same_refusal r bad = let same : r ≡ RegistryFull = cc in ap (err_of X) same
+
+-- where nothing waits a version is given, or its refusal changes nothing
+pub taken_idle : {X : Type 0} (old new : View) (result : Result X Refusal) → IfErr result (λ refusal. refusal ≡ NoMemory) → IsIdle old new
+    → ((x : X) → IsPublish {X = X} old new (Ok x)) → IsTaken {X = X} old new result
+taken_idle old new (Ok x) memory idle publish = inl (publish x)
+taken_idle old new (Err refusal) memory idle publish = inr (ap Err memory, idle)
+
+-- what holds of every refusal and of every version
+pub whatever_err : {X : Type 0} {P : Type 0} (result : Result X Refusal) → P → OnErr result P
+whatever_err (Ok x) p = tt
+whatever_err (Err refusal) p = p
+
+pub whatever_ok : {X : Type 0} {P : Type 0} (result : Result X Refusal) → P → OnOk result P
+whatever_ok (Ok x) p = p
+whatever_ok (Err refusal) p = tt
 
 -- want of memory is no full registry
 pub memory_not_full : {X : Type 0} (refusal : Refusal) → refusal ≡ NoMemory → err_of X refusal ≡ Err RegistryFull → ⊥

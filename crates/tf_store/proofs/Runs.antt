@@ -1,6 +1,6 @@
 -- What is known of a batch of either kind that was run, or refused before it.
 use mathlib.Core.List.{IsPrefix}
-use Rattle.std.proofs.Common.{◌≡◌, ℕ, ◌+◌, ◌≤◌, List, [], ◌∷◌, ◌++◌, Option, Some, None, refl, sym, subst, ap, arith, length, ◌∙◌}
+use Rattle.std.proofs.Common.{◌≡◌, ℕ, ◌+◌, ◌≤◌, List, Option, Some, None, refl, sym, subst, ap, arith, length}
 use Rattle.std.specs.Prelude.{Result, Ok, Err, OnOk, OnErr, IfOk, IfErr, MatchOption}
 use Rattle.tf_records.specs.declared.refusal.Refusal.{Refusal}
 use Rattle.tf_records.specs.declared.refusal.Refusal.TheVariants.{NoMemory}
@@ -8,7 +8,7 @@ use Rattle.tf_records.specs.declared.reply.Failure.{Failure}
 use Rattle.tf_journal.specs.declared.entry.Entry.{Entry}
 use Rattle.tf_journal.specs.Lawful.{IsLawfulAt}
 use Rattle.tf_journal.specs.Ledger.{IsUnchanged}
-use Rattle.tf_events.specs.Batch.{IsBatchRun, batch_clock, batch_refusal}
+use Rattle.tf_events.specs.Batch.{IsBatchRun, batch_refusal}
 use Rattle.tf_events.specs.Chain as kind
 use Rattle.tf_store.specs.Book.{book_of}
 use Rattle.tf_store.specs.Receipt.{Batch, accounts, transfers, IsRun, count_of, step_of}

@@ -1,5 +1,5 @@
 -- What a publish of a store leaves.
-use Rattle.std.specs.Prelude.{◌≡◌, ◌≢◌, ◌+◌, ◌<◌, ◌≤◌, ◌==◌, length, Result, Err, OnOk, OnErr, IfErr, IsOk, if◌then◌else◌}
+use Rattle.std.specs.Prelude.{◌≡◌, ◌≢◌, ◌⊎◌, ◌+◌, ◌<◌, ◌≤◌, ◌==◌, length, Result, Err, OnOk, OnErr, IfErr, IsOk, if◌then◌else◌}
 use Rattle.tf_records.specs.declared.refusal.Refusal.{Refusal}
 use Rattle.tf_records.specs.declared.refusal.Refusal.TheVariants.{NoMemory, RegistryFull}
 use Rattle.tf_manifest.specs.View.{ShowsJournal}
@@ -30,3 +30,13 @@ pub record IsPublish {X : Type 0} (old new : View) (result : Result X Refusal) :
   pub still : old.waiting ≡ 0 → new ≡ old
   pub full : result ≡ Err RegistryFull → (new ≡ old) × (old.sealed.tables.pushed.limit < old.sealed.tables.pushed.count + old.needed)
   pub refused : IfErr result (λ refusal. refusal ≢ RegistryFull → (refusal ≡ NoMemory) × (old.sealed.tables.pushed.count + old.needed ≤ old.sealed.tables.pushed.limit))
+
+-- nothing waited, and nothing happened
+pub record IsIdle (old new : View) : Type 0 where
+  pub none : old.waiting ≡ 0
+  pub same : new ≡ old
+
+-- a forest was published and a version of it was given, or the publish was refused; or nothing waited, and the version was
+-- refused, since it has as many owners as can be counted
+abbrev pub IsTaken : {X : Type 0} → View → View → Result X Refusal → Type 0
+IsTaken old new result = IsPublish old new result ⊎ ((result ≡ Err NoMemory) × IsIdle old new)

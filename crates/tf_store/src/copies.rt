@@ -1,12 +1,10 @@
 //! What readers of a store enter.
 ghost use Rattle.std.specs.Prelude.{◌≡◌, OnErr, OnOk, IfErr};
 
-use crate::StoreName;
 use std::alloc::Allocator;
 use std::sync::Wait;
 use tf_history::{Front, HistoryName};
-use tf_query::Version;
-use tf_readers::{Copies, Publishable, Published, Shows, VersionOf, show};
+use tf_readers::{Copies, Publishable, Published, Shows, show};
 use tf_records::Refusal;
 
 /// What readers of a store enter: contracts see the journal that it shows.
@@ -24,7 +22,7 @@ pub trait VersionCopies<W: Shows, S: HistoryName>: StoredCopies {
     /// what was published before the last.
     ///
     /// [`Refusal::NoMemory`] is the only refusal: nothing was shown then. Takes memory at the first publication alone, and
-    /// copies the version's references into each of both copies.
+    /// makes one more owner of the version.
     fn show(&mut self, version: W, front: &Front<S>) -> Result<(), Refusal>
         requires { W.journal version ≡ front.now }
         ensures shown { OnOk result (Self.shown self.new ≡ front.now) }
@@ -39,19 +37,31 @@ impl<V: Publishable + Drop, A: Allocator, S: HistoryName, R: Wait + Drop> Stored
     ghost shown = { λ copies. published copies };
 }
 
-impl<'r, V, A, S, R> VersionCopies<Version<'r, A, S>, S> for Copies<V, A, S, R>
+/// A version of type `W`, for code that is generic in what readers are shown: each type is of itself.
+///
+/// Whoever opens a store names the type of its versions at one call, and lets all below it be generic in a
+/// `V: VersionOf<Version<A, S>> + Publishable + Drop`, whose copies are `Copies<V, A, S, R>`.
+pub trait VersionOf<W: Shows>: Shows {
+    /// The version itself. It takes no memory.
+    fn of(version: W) -> Self
+        ensures { Self.journal result ≡ W.journal version };
+}
+
+impl<V: Shows + Drop> VersionOf<V> for V {
+    fn of(version: V) -> V {
+        version
+    }
+}
+
+impl<W, V, A, S, R> VersionCopies<W, S> for Copies<V, A, S, R>
 where
-    V: VersionOf<Version<'r, A, S>> + Publishable + Drop,
-    A: Allocator + Copy,
-    S: StoreName,
+    W: Shows,
+    V: VersionOf<W> + Publishable + Drop,
+    A: Allocator,
+    S: HistoryName,
     R: Wait + Drop,
 {
-    fn show(&mut self, version: Version<'r, A, S>, front: &Front<S>) -> Result<(), Refusal> {
-        let mut place = None;
-        V::put(version, &mut place);
-        match place {
-            Some(version) => show(self, Published::new(version, front)),
-            None => unreachable!(),
-        }
+    fn show(&mut self, version: W, front: &Front<S>) -> Result<(), Refusal> {
+        show(self, Published::new(V::of(version), front))
     }
 }

@@ -18,8 +18,8 @@ use tf_forest::Forest;
 use tf_publish::Rows;
 use tf_rows::MutableRows;
 
-impl<'r, T: MutableRows + Drop, C: StoredCopies + Drop, A: Allocator + Copy, S: StoreName> Store<
-    Forest<Rows<'r, T, A, S>, A>,
+impl<T: MutableRows + Drop, C: StoredCopies + Drop, A: Allocator + Copy, S: StoreName> Store<
+    Forest<Rows<T, A, S>, A>,
     C,
     A,
     S,
@@ -47,6 +47,6 @@ impl<'r, T: MutableRows + Drop, C: StoredCopies + Drop, A: Allocator + Copy, S: 
     {
         self.forest.facts();
         self.forest.facts_of_rows();
-        self.book()
+        self.tally.count()
     }
 }

@@ -18,7 +18,7 @@ mod share;
 mod store;
 mod tally;
 
-pub use copies::{StoredCopies, VersionCopies};
+pub use copies::{StoredCopies, VersionCopies, VersionOf};
 pub use events::Events;
 pub use names::{BlankStore, StoreName};
 pub use opening::NewStore;

@@ -4,7 +4,7 @@ ghost use Rattle.std.specs.Prelude.{◌≡◌};
 use std::marker::Brand;
 use std::sync::ledger::{Blank, Ledger};
 use tf_history::{HistoryName, Opened};
-use tf_manifest::Naming;
+use tf_registry::Naming;
 
 /// Which store a value is of: which registries its tables lie in, which ledger its shares count in, and which history its
 /// readers follow. Shares, receipts and readers of one store agree in this parameter, since nothing that is known of a

@@ -1,15 +1,16 @@
 //! Publishing a store: what readers and versions see.
 ghost use mathlib.Core.List.{IsPrefix};
-ghost use Rattle.std.specs.Prelude.{◌≡◌, ◌≤◌, [], length, OnOk, OnErr, IfOk};
+ghost use Rattle.std.specs.Prelude.{◌≡◌, ◌≤◌, [], length, OnOk, OnErr, IfErr, IfOk, IfNone, IfSome};
 ghost use Rattle.std.specs.List.{All};
 ghost use Rattle.tf_journal.specs.Lawful.{IsLawful};
-ghost use Rattle.tf_store.specs.Public.{IsPublic, all_public};
 ghost use Rattle.tf_publish.specs.Partly.{CountsParts};
 ghost use Rattle.tf_publish.specs.Tables.{by_name};
-ghost use Rattle.tf_store.specs.Publish.{IsPublish};
+ghost use Rattle.tf_store.specs.Public.{IsPublic, all_public};
+ghost use Rattle.tf_store.specs.Publish.{IsIdle, IsPublish, IsTaken};
 ghost use Rattle.tf_store.specs.Receipt.{IsReceiptOf};
 
-use crate::public::{Public, tell};
+use crate::public::{Public, show_again, tell};
+use crate::store::sealed_tables;
 use crate::{Receipt, Store, StoreName, VersionCopies};
 use std::alloc::Allocator;
 use std::sync::Wait;
@@ -17,51 +18,61 @@ use tf_forest::Forest;
 use tf_manifest::manifest_shows_one_journal;
 use tf_publish::Rows;
 use tf_query::Version;
-use tf_readers::version_of;
 use tf_records::Refusal;
 use tf_rows::SealRows;
 
-/// Publishes a forest, and shows readers its journal.
-fn bring_up<'r, T, A, S, C, W>(
+/// Publishes a forest, and shows readers its journal. Gives a version of it, one more owner of what readers see, or none where
+/// nothing waited: then readers saw all of the journal already, and nothing happened.
+fn bring_up<T, A, S, C, W>(
+    alloc: A,
     rt: &W,
-    forest: &mut Forest<Rows<'r, T, A, S>, A>,
-    public: &mut Public<C, S>,
-) -> Result<(), Refusal>
+    forest: &mut Forest<Rows<T, A, S>, A>,
+    public: &mut Public<C, A, S>,
+) -> Result<Option<Version<A, S>>, Refusal>
 where
     T: SealRows<A> + Drop,
     A: Allocator + Copy,
     S: StoreName,
-    C: VersionCopies<Version<'r, A, S>, S> + Drop,
+    C: VersionCopies<Version<A, S>, S> + Drop,
     W: Wait,
     requires lawful { IsLawful forest.old.journal }
     requires kept { forest.old.kept ≡ length forest.old.journal }
     requires public { IsPublic forest.old public.old }
     ensures publish { IsPublish forest.old forest.new result }
+    ensures version { IfOk result (λ given. IfSome given (λ version. version ≡ forest.old.journal)) }
     ensures all { OnOk result (public.new ≡ all_public forest.new.journal) }
     ensures begins { IsPrefix public.new.front forest.new.journal }
     ensures further { length public.old.front ≤ length public.new.front }
     ensures refused { OnErr result ((public.new.shown ≡ public.old.shown) × (public.new.readable ≡ public.old.readable)) }
     ensures parts { OnErr result (CountsParts (by_name forest.old.fresh) forest.old.sealed forest.new.sealed) }
+    ensures idle { IfOk result (λ given. IfNone given (IsIdle forest.old forest.new)) }
+    ensures uncounted { IfOk result (λ given. IfNone given (CountsParts (by_name forest.old.fresh) forest.old.sealed forest.new.sealed)) }
+    ensures same { IfOk result (λ given. IfNone given (public.new ≡ public.old)) }
 {
     manifest_shows_one_journal();
     forest.facts();
     forest.facts_of_rows();
-    let prepared = forest.prepare(rt)?;
-    match tell(public, forest, &prepared) {
-        Ok(()) => {
-            forest.settle(&prepared);
-            Ok(())
+    let Some(prepared) = forest.prepare(rt)? else {
+        return Ok(None);
+    };
+    match tell(alloc, public, forest, prepared.manifest()) {
+        Ok(version) => {
+            forest.settle(prepared);
+            Ok(Some(version))
         }
-        Err(refusal) => Err(refusal),
+        Err(refusal) => {
+            drop(prepared);
+            Err(refusal)
+        }
     }
 }
 
-impl<'r, T, A, S, C> Store<Forest<Rows<'r, T, A, S>, A>, C, A, S>
+impl<T, A, S, C> Store<Forest<Rows<T, A, S>, A>, C, A, S>
 where
     T: SealRows<A> + Drop,
     A: Allocator + Copy,
     S: StoreName,
-    C: VersionCopies<Version<'r, A, S>, S> + Drop,
+    C: VersionCopies<Version<A, S>, S> + Drop,
 {
     /// Seals what was stored since the last publish, so that versions and readers show it, and hands out the receipts of all
     /// batches that waited, in their order.
@@ -87,23 +98,47 @@ where
         ensures unread { OnErr result (self.new.readable ≡ self.old.readable) }
     {
         let public = &mut self.public;
-        bring_up(rt, &mut self.forest, public)?;
+        let _version = bring_up(self.alloc, rt, &mut self.forest, public)?;
         let front = self.public.front();
         Ok(self.queue.hand_over(self.alloc, front))
     }
 
-    /// Publishes, as `publish` does, for readers too, but that receipts go on waiting, and gives a version of the journal: a
-    /// copy of the references of all tables. Refusals and cost are those of `publish`.
-    pub fn take_version<W: Wait>(&mut self, rt: &W) -> Result<Version<'r, A, S>, Refusal>
-        ensures publish { IsPublish self.old.forest self.new.forest result }
+    /// Publishes, as `publish` does, for readers too, but that receipts go on waiting, and gives a version of the journal: one more
+    /// owner of the one that readers see.
+    ///
+    /// Refusals and cost are those of `publish`, but that the version itself may be refused where nothing was stored since the
+    /// last publish: `NoMemory` where it has 2^63 - 1 owners. Then all stays as it was.
+    pub fn take_version<W: Wait>(&mut self, rt: &W) -> Result<Version<A, S>, Refusal>
+        ensures publish { IsTaken self.old.forest self.new.forest result }
         ensures parts { OnErr result (CountsParts (by_name self.old.forest.fresh) self.old.forest.sealed self.new.forest.sealed) }
         ensures version { IfOk result (λ version. version ≡ self.old.forest.journal) }
         ensures waiting { self.new.waiting ≡ self.old.waiting }
         ensures readable { OnOk result (self.new.readable ≡ self.old.forest.journal) }
         ensures unread { OnErr result (self.new.readable ≡ self.old.readable) }
     {
-        bring_up(rt, &mut self.forest, &mut self.public)?;
-        let manifest = self.forest.rows().published.manifest();
-        Ok(version_of(manifest, self.public.front()))
+        match bring_up(self.alloc, rt, &mut self.forest, &mut self.public) {
+            Ok(Some(version)) => Ok(version),
+            Ok(None) => self.public.version(),
+            Err(refusal) => Err(refusal),
+        }
+    }
+
+    /// Shows readers the sealed tables as merges left them: a table that a merge retired is given back once no reader and no
+    /// version holds it. Without this call what readers enter refers to such a table until two more publishes had something to
+    /// show.
+    ///
+    /// The journal that readers see is the one that they saw, and not an entry more: what was stored since the last publish
+    /// goes on waiting. It may be called whether or not anything was merged.
+    ///
+    /// `NoMemory` is the only refusal: then readers see the same journal in the merged tables or in those from before, and the
+    /// call may be made again.
+    ///
+    /// Copies the references of all tables once, and publishes them twice, once for each copy that readers enter. It may wait
+    /// for readers that are about to leave what was published before.
+    pub fn show_merged(&mut self) -> Result<(), Refusal>
+        ensures same { self.new ≡ self.old }
+        ensures refusal { IfErr result (λ refusal. refusal ≡ Refusal.NoMemory) }
+    {
+        show_again(self.alloc, &mut self.public, sealed_tables(&self.forest))
     }
 }

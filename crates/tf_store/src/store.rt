@@ -15,6 +15,7 @@ use crate::{StoreName, StoredCopies};
 use std::alloc::Allocator;
 use std::marker::Model;
 use tf_forest::Forest;
+use tf_manifest::Manifest;
 use tf_publish::Rows;
 use tf_rows::{AllRows, MutableRows};
 
@@ -30,8 +31,8 @@ impl<R: AllRows + Drop, A: Allocator + Copy> StoredForest for Forest<R, A> {
     ghost seen = { λ forest. forest };
 }
 
-/// A store over the mutable tables `T` and the sealed tables of registries that live for `'r`, whose readers enter `C`.
-pub type StoreOf<'r, T, C, A, S> = Store<Forest<Rows<'r, T, A, S>, A>, C, A, S>;
+/// A store over the mutable tables `T`, whose readers enter `C`.
+pub type StoreOf<T, C, A, S> = Store<Forest<Rows<T, A, S>, A>, C, A, S>;
 
 /// A ledger with versions: its forest, what readers see of it, what its shares count, and the batches whose receipts wait. It is
 /// the state that a lock guards.
@@ -48,7 +49,7 @@ pub struct Store<
 > {
     pub(crate) forest: F,
     pub(crate) tally: Tally<S>,
-    pub(crate) public: Public<C, S>,
+    pub(crate) public: Public<C, A, S>,
     pub(crate) queue: Queue<A, S>,
     pub(crate) alloc: A,
 }
@@ -64,6 +65,15 @@ impl<F: StoredForest + Drop, C: StoredCopies + Drop, A: Allocator + Copy, S: Sto
     ghost view = { λ s. record { forest = F.seen s.forest; readable = s.public.readable; waiting = map (receipt_of (F.seen s.forest).journal) s.queue.waiting } };
 
     ghost invariant = { λ s. IsStore (F.seen s.forest) s.tally s.public s.queue.waiting };
+}
+
+/// The sealed tables of a forest.
+pub(crate) fn sealed_tables<T: MutableRows + Drop, A: Allocator + Copy, S: StoreName>(
+    forest: &Forest<Rows<T, A, S>, A>,
+) -> &Manifest<A, S>
+    ensures { result.now ≡ forest.now.sealed.tables }
+{
+    forest.rows().published.manifest()
 }
 
 impl<R: AllRows + Drop, C: StoredCopies + Drop, A: Allocator + Copy, S: StoreName> Store<
@@ -99,8 +109,8 @@ impl<R: AllRows + Drop, C: StoredCopies + Drop, A: Allocator + Copy, S: StoreNam
     }
 }
 
-impl<'r, T: MutableRows + Drop, C: StoredCopies + Drop, A: Allocator + Copy, S: StoreName> Store<
-    Forest<Rows<'r, T, A, S>, A>,
+impl<T: MutableRows + Drop, C: StoredCopies + Drop, A: Allocator + Copy, S: StoreName> Store<
+    Forest<Rows<T, A, S>, A>,
     C,
     A,
     S,
@@ -109,7 +119,7 @@ impl<'r, T: MutableRows + Drop, C: StoredCopies + Drop, A: Allocator + Copy, S: 
     pub fn registered(&self) -> u32
         ensures { result ≡ self.now.forest.sealed.tables.pushed.count }
     {
-        self.forest.rows().published.manifest().pushed()
+        sealed_tables(&self.forest).pushed()
     }
 
     /// How many entries of mutable tables were sealed. It takes no memory.

@@ -1,34 +1,33 @@
 //! Look-ups of a store and of the plain ledger, which answer alike.
 
 use crate::plain::Plain;
+use crate::tried::Tried;
 use std::alloc::Allocator;
 use std::process::Abort;
 use tf_forest::Forest;
 use tf_journal::Ledger;
-use tf_query::Version;
-use tf_rows::{AllRows, SealRows};
-use tf_store::{Store, StoreName, StoreOf, StoredCopies, VersionCopies};
+use tf_rows::AllRows;
+use tf_store::{Store, StoreName, StoredCopies};
 
 /// One more than the greatest id of an account and of a transfer that is looked up.
 const IDS: u32 = 36;
 
 /// Clock, lengths, books, what is due, and the look-ups of all ids below `IDS`.
-pub fn assert_alike<
-    'r,
-    T: SealRows<A> + Drop,
-    A: Allocator + Copy,
-    S: StoreName,
-    C: VersionCopies<Version<'r, A, S>, S> + Drop,
->(rt: &impl Abort, store: &StoreOf<'r, T, C, A, S>, plain: &Plain) {
-    assert_store_alike(rt, store, plain);
+pub fn assert_alike<F: Tried<A, S>, A: Allocator + Copy, S: StoreName>(
+    rt: &impl Abort,
+    store: &F,
+    plain: &Plain,
+) {
+    store.assert_alike(rt, plain);
 }
 
 /// The same over any rows.
-fn assert_store_alike<R: AllRows + Drop, C: StoredCopies + Drop, A: Allocator + Copy, S: StoreName>(
-    rt: &impl Abort,
-    store: &Store<Forest<R, A>, C, A, S>,
-    plain: &Plain,
-) {
+pub fn assert_store_alike<
+    R: AllRows + Drop,
+    C: StoredCopies + Drop,
+    A: Allocator + Copy,
+    S: StoreName,
+>(rt: &impl Abort, store: &Store<Forest<R, A>, C, A, S>, plain: &Plain) {
     let entries = plain.ledger().mark().length;
     let book = plain.book();
     assert_eq!(rt; store.book(), book as u64);

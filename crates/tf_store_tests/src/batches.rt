@@ -5,17 +5,16 @@ use crate::alike::assert_alike;
 use crate::commands::{Outcome, is_same, run};
 use crate::events::{account, accounts, transfer};
 use crate::memory::all_but;
+use crate::tried::Tried;
 use crate::twin::Twin;
 use linked_list_allocator::LocalHeap;
 use std::alloc::{Allocator, Global};
 use std::process::Abort;
 use std::sync::Wait;
 use std::test::Fail;
-use tf_query::Version;
 use tf_records::{BATCH_MAX, Refusal, TIMESTAMP_MAX, Transfer};
-use tf_rows::SealRows;
 use tf_script::Command;
-use tf_store::{Share, StoreName, StoreOf, VersionCopies};
+use tf_store::{Share, StoreName};
 
 /// A batch of so many accounts, all of which fail.
 fn failing_accounts(alloc: Global, count: u32, now: u64) -> Result<Command<Global>, Refusal> {
@@ -70,16 +69,10 @@ fn cases(alloc: Global) -> Result<[(Command<Global>, Refusal); 6], Refusal> {
 }
 
 /// On a heap that has no byte left, each case is refused by its own limits. Nothing has changed then.
-fn assert_cases_refused<
-    'r,
-    T: SealRows<A> + Drop,
-    A: Allocator + Copy,
-    S: StoreName,
-    C: VersionCopies<Version<'r, A, S>, S> + Drop,
->(
+fn assert_cases_refused<F: Tried<A, S>, A: Allocator + Copy, S: StoreName>(
     rt: &(impl Abort + AllocGlobal),
     heap: &LocalHeap,
-    store: &mut StoreOf<'r, T, C, A, S>,
+    store: &mut F,
     share: &mut Share<S>,
     twin: &mut Twin,
 ) -> Result<(), Fail> {
@@ -97,17 +90,11 @@ fn assert_cases_refused<
 
 /// Batches past their limits are refused. The greatest ones are stored, up to the end of the clock, after which only batches
 /// without events are.
-pub fn assert_limits_of_batches<
-    'r,
-    T: SealRows<A> + Drop,
-    A: Allocator + Copy,
-    S: StoreName,
-    C: VersionCopies<Version<'r, A, S>, S> + Drop,
->(
+pub fn assert_limits_of_batches<F: Tried<A, S>, A: Allocator + Copy, S: StoreName>(
     rt: &(impl Abort + AllocGlobal + Wait),
     alloc: A,
     heap: &LocalHeap,
-    store: &mut StoreOf<'r, T, C, A, S>,
+    store: &mut F,
     shares: &mut [Share<S>],
 ) -> Result<(), Fail>
     requires { length shares.old ≡ 64 }
@@ -127,7 +114,7 @@ pub fn assert_limits_of_batches<
     twin.run_all(rt, alloc, store, shares, &commands[..2])?;
     assert_cases_refused(rt, heap, store, &mut shares[0], &mut twin)?;
     twin.run_all(rt, alloc, store, shares, &commands)?;
-    assert_eq!(rt; store.forest().clock(), TIMESTAMP_MAX);
+    assert_eq!(rt; store.clock(), TIMESTAMP_MAX);
     assert_eq!(rt; twin.publish(rt, store)?, 7);
     Ok(())
 }

@@ -1,14 +1,13 @@
 //! Commands of scripts, run on a store, and what they answer.
 
+use crate::tried::Tried;
 use std::alloc::Allocator;
 use std::sync::Wait;
 use std::test::Fail;
 use tf_manifest::Row;
-use tf_query::Version;
 use tf_records::{Refusal, Reply};
-use tf_rows::SealRows;
 use tf_script::Command;
-use tf_store::{Share, StoreName, StoreOf, VersionCopies};
+use tf_store::{Share, StoreName};
 
 /// What a command answers.
 #[derive(Drop)]
@@ -36,14 +35,11 @@ pub fn is_same<A: Allocator, B: Allocator>(one: &Outcome<A>, other: &Outcome<B>)
 }
 
 /// Runs a batch or a pulse, and no other command.
-pub fn run<
-    'r,
-    T: SealRows<A> + Drop,
-    A: Allocator + Copy,
-    S: StoreName,
-    C: VersionCopies<Version<'r, A, S>, S> + Drop,
-    B: Allocator,
->(store: &mut StoreOf<'r, T, C, A, S>, share: &mut Share<S>, command: &Command<B>) -> Outcome<A> {
+pub fn run<F: Tried<A, S>, A: Allocator + Copy, S: StoreName, B: Allocator>(
+    store: &mut F,
+    share: &mut Share<S>,
+    command: &Command<B>,
+) -> Outcome<A> {
     match command {
         Command::Accounts { now, events } => Ok(Answer::Batch(store.create_accounts(
             events.as_slice(),
@@ -61,14 +57,13 @@ pub fn run<
 }
 
 /// Merges the next run of a row, and puts it in its place. It tells whether there was one.
-pub fn merge_next<
-    'r,
-    T: SealRows<A> + Drop,
-    A: Allocator + Copy,
-    S: StoreName,
-    C: VersionCopies<Version<'r, A, S>, S> + Drop,
->(rt: &impl Wait, alloc: A, store: &mut StoreOf<'r, T, C, A, S>, row: Row) -> Result<bool, Fail> {
-    let Some(job) = store.pick(row) else {
+pub fn merge_next<F: Tried<A, S>, A: Allocator + Copy, S: StoreName>(
+    rt: &impl Wait,
+    alloc: A,
+    store: &mut F,
+    row: Row,
+) -> Result<bool, Fail> {
+    let Some(job) = store.pick(row)? else {
         return Ok(false);
     };
     let Ok(()) = store.install(rt, job.merge(alloc)?) else {
@@ -78,13 +73,11 @@ pub fn merge_next<
 }
 
 /// Merges the next run of each row that has one. Tells how many there were.
-fn merge_each<
-    'r,
-    T: SealRows<A> + Drop,
-    A: Allocator + Copy,
-    S: StoreName,
-    C: VersionCopies<Version<'r, A, S>, S> + Drop,
->(rt: &impl Wait, alloc: A, store: &mut StoreOf<'r, T, C, A, S>) -> Result<u32, Fail> {
+fn merge_each<F: Tried<A, S>, A: Allocator + Copy, S: StoreName>(
+    rt: &impl Wait,
+    alloc: A,
+    store: &mut F,
+) -> Result<u32, Fail> {
     let mut merges: u32 = 0;
     for row in Row::ALL {
         if merge_next(rt, alloc, store, row)? {
@@ -95,13 +88,11 @@ fn merge_each<
 }
 
 /// Merges the runs of all rows until none has one. Tells how many there were.
-pub fn merge_all<
-    'r,
-    T: SealRows<A> + Drop,
-    A: Allocator + Copy,
-    S: StoreName,
-    C: VersionCopies<Version<'r, A, S>, S> + Drop,
->(rt: &impl Wait, alloc: A, store: &mut StoreOf<'r, T, C, A, S>) -> Result<u32, Fail> {
+pub fn merge_all<F: Tried<A, S>, A: Allocator + Copy, S: StoreName>(
+    rt: &impl Wait,
+    alloc: A,
+    store: &mut F,
+) -> Result<u32, Fail> {
     let mut merges: u32 = 0;
     for _ in 0..1000u32 {
         let more = merge_each(rt, alloc, store)?;

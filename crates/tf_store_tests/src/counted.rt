@@ -1,10 +1,9 @@
 //! What a store counts of its tables.
 
+use crate::tried::Tried;
 use std::alloc::Allocator;
 use tf_manifest::Row;
-use tf_query::Version;
-use tf_rows::SealRows;
-use tf_store::{StoreName, StoreOf, VersionCopies};
+use tf_store::StoreName;
 
 /// Tables pushed, their entries, and the tables of each row.
 #[derive(Clone, Copy, Debug, PartialEq, Eq)]
@@ -18,13 +17,7 @@ pub struct Counted {
 
 impl Counted {
     /// What a store counts now.
-    pub fn of<
-        'r,
-        T: SealRows<A> + Drop,
-        A: Allocator + Copy,
-        S: StoreName,
-        C: VersionCopies<Version<'r, A, S>, S> + Drop,
-    >(store: &StoreOf<'r, T, C, A, S>) -> Counted {
+    pub fn of<F: Tried<A, S>, A: Allocator + Copy, S: StoreName>(store: &F) -> Counted {
         Counted {
             registered: store.registered(),
             rows_sealed: store.rows_sealed(),
@@ -35,17 +28,10 @@ impl Counted {
 }
 
 /// How many tables each row has.
-pub fn references<
-    'r,
-    T: SealRows<A> + Drop,
-    A: Allocator + Copy,
-    S: StoreName,
-    C: VersionCopies<Version<'r, A, S>, S> + Drop,
->(store: &StoreOf<'r, T, C, A, S>) -> [u32; 21] {
-    let manifest = store.forest().rows().published.manifest();
+pub fn references<F: Tried<A, S>, A: Allocator + Copy, S: StoreName>(store: &F) -> [u32; 21] {
     let mut references = [0; 21];
     for place in 0..21usize {
-        references[place] = manifest.references(Row::ALL[place]);
+        references[place] = store.references(Row::ALL[place]);
     }
     references
 }

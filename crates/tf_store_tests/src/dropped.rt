@@ -4,28 +4,21 @@ ghost use Rattle.std.specs.Prelude.{◌≡◌, length};
 use crate::commands::run;
 use crate::events::{accounts, round};
 use crate::memory::all_but;
+use crate::tried::Tried;
 use crate::twin::Twin;
 use linked_list_allocator::LocalHeap;
 use std::alloc::Allocator;
 use std::process::Abort;
 use std::sync::Wait;
 use std::test::Fail;
-use tf_query::Version;
-use tf_rows::SealRows;
 use tf_script::Command;
-use tf_store::{Share, StoreName, StoreOf, VersionCopies};
+use tf_store::{Share, StoreName};
 
 /// Makes each call of a round with so much room on the heap, whatever is refused.
-fn call_each<
-    'r,
-    T: SealRows<A> + Drop,
-    A: Allocator + Copy,
-    S: StoreName,
-    C: VersionCopies<Version<'r, A, S>, S> + Drop,
->(
+fn call_each<F: Tried<A, S>, A: Allocator + Copy, S: StoreName>(
     rt: &(impl Abort + AllocGlobal + Wait),
     heap: &LocalHeap,
-    store: &mut StoreOf<'r, T, C, A, S>,
+    store: &mut F,
     share: &mut Share<S>,
     room: usize,
 ) -> Result<(), Fail> {
@@ -41,17 +34,11 @@ fn call_each<
 }
 
 /// After a round with ample memory, calls are made with so much room, and the store is dropped then.
-pub fn drop_after_calls<
-    'r,
-    T: SealRows<A> + Drop,
-    A: Allocator + Copy,
-    S: StoreName,
-    C: VersionCopies<Version<'r, A, S>, S> + Drop,
->(
+pub fn drop_after_calls<F: Tried<A, S>, A: Allocator + Copy, S: StoreName>(
     rt: &(impl Abort + AllocGlobal + Wait),
     alloc: A,
     heap: &LocalHeap,
-    store: &mut StoreOf<'r, T, C, A, S>,
+    store: &mut F,
     shares: &mut [Share<S>],
     room: usize,
 ) -> Result<(), Fail>

@@ -68,6 +68,15 @@ pub fn one_transfer(alloc: Global, id: u64) -> Result<Command<Global>, Refusal> 
     Ok(Command::Transfers { now: 0, events })
 }
 
+/// A batch of so many transfers, with ids from the first on.
+pub fn transfers(alloc: Global, first: u64, count: u64) -> Result<Command<Global>, Refusal> {
+    let mut events = Vec::new(alloc);
+    for before in 0..count {
+        events.push(transfer(first.wrapping_add(before), 0))?;
+    }
+    Ok(Command::Transfers { now: 0, events })
+}
+
 /// A batch of one account.
 fn one_account(alloc: Global, id: u64) -> Result<Command<Global>, Refusal> {
     let mut events = Vec::new(alloc);

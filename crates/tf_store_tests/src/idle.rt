@@ -4,30 +4,23 @@ ghost use Rattle.std.specs.Prelude.{◌≡◌, length};
 use crate::answers::assert_answers;
 use crate::events::{accounts, one_transfer};
 use crate::memory::all_but;
+use crate::tried::Tried;
 use crate::twin::Twin;
 use linked_list_allocator::LocalHeap;
 use std::alloc::Allocator;
 use std::process::Abort;
 use std::sync::Wait;
 use std::test::Fail;
-use tf_query::Version;
-use tf_rows::SealRows;
 use tf_script::Command;
-use tf_store::{Share, StoreName, StoreOf, VersionCopies};
+use tf_store::{Share, StoreName};
 
 /// On a heap that has no byte left, a publish hands out the receipts of batches that stored nothing, another one hands out
 /// none, and a version is taken.
-pub fn assert_idle_publish_takes_nothing<
-    'r,
-    T: SealRows<A> + Drop,
-    A: Allocator + Copy,
-    S: StoreName,
-    C: VersionCopies<Version<'r, A, S>, S> + Drop,
->(
+pub fn assert_idle_publish_takes_nothing<F: Tried<A, S>, A: Allocator + Copy, S: StoreName>(
     rt: &(impl Abort + AllocGlobal + Wait),
     alloc: A,
     heap: &LocalHeap,
-    store: &mut StoreOf<'r, T, C, A, S>,
+    store: &mut F,
     shares: &mut [Share<S>],
 ) -> Result<(), Fail>
     requires { length shares.old ≡ 64 }

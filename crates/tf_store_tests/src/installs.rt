@@ -5,6 +5,7 @@ use crate::alike::assert_alike;
 use crate::counted::Counted;
 use crate::events::{accounts, one_transfer};
 use crate::memory::{Taken, all_but, all_but_holes};
+use crate::tried::Tried;
 use crate::twin::Twin;
 use linked_list_allocator::LocalHeap;
 use std::alloc::{Allocator, Global};
@@ -12,27 +13,20 @@ use std::ops::Range;
 use std::process::Abort;
 use std::sync::Wait;
 use std::test::Fail;
-use tf_manifest::{Merged, Row, Uninstalled};
-use tf_query::Version;
+use tf_manifest::{Merged, Row};
 use tf_records::Refusal;
-use tf_rows::SealRows;
+use tf_registry::Uninstalled;
 use tf_script::Command;
-use tf_store::{Share, StoreName, StoreOf, VersionCopies};
+use tf_store::{Share, StoreName};
 
 /// How many tables five publishes push, of which the first has accounts and all have a transfer of one with history.
 pub const FIVE_PUBLISHES: u32 = 18 + 4 * 11;
 
 /// Stores transfers with these ids, each in a batch of its own, which is published. That with id 1 comes after accounts.
-fn publish_each<
-    'r,
-    T: SealRows<A> + Drop,
-    A: Allocator + Copy,
-    S: StoreName,
-    C: VersionCopies<Version<'r, A, S>, S> + Drop,
->(
+fn publish_each<F: Tried<A, S>, A: Allocator + Copy, S: StoreName>(
     rt: &(impl Abort + AllocGlobal + Wait),
     alloc: A,
-    store: &mut StoreOf<'r, T, C, A, S>,
+    store: &mut F,
     shares: &mut [Share<S>],
     twin: &mut Twin,
     ids: Range<u64>,
@@ -51,35 +45,23 @@ fn publish_each<
 }
 
 /// An install of the next merge of a row is refused, since as many tables were pushed as may be.
-fn assert_no_room<
-    'r,
-    T: SealRows<A> + Drop,
-    A: Allocator + Copy,
-    S: StoreName,
-    C: VersionCopies<Version<'r, A, S>, S> + Drop,
->(
+fn assert_no_room<F: Tried<A, S>, A: Allocator + Copy, S: StoreName>(
     rt: &(impl Abort + Wait),
     alloc: A,
-    store: &mut StoreOf<'r, T, C, A, S>,
+    store: &mut F,
     row: Row,
 ) -> Result<(), Fail> {
-    let job = store.pick(row).ok_or("no job")?;
+    let job = store.pick(row)?.ok_or("no job")?;
     let merged = job.merge(alloc)?;
     assert!(rt; matches!(store.install(rt, merged), Err(Uninstalled::RegistryFull)));
     Ok(())
 }
 
 /// Where publishes pushed as many tables as may be pushed, an install is refused, and changes nothing.
-pub fn assert_install_is_refused<
-    'r,
-    T: SealRows<A> + Drop,
-    A: Allocator + Copy,
-    S: StoreName,
-    C: VersionCopies<Version<'r, A, S>, S> + Drop,
->(
+pub fn assert_install_is_refused<F: Tried<A, S>, A: Allocator + Copy, S: StoreName>(
     rt: &(impl Abort + AllocGlobal + Wait),
     alloc: A,
-    store: &mut StoreOf<'r, T, C, A, S>,
+    store: &mut F,
     shares: &mut [Share<S>],
 ) -> Result<(), Fail>
     requires { length shares.old ≡ 64 }
@@ -95,8 +77,12 @@ pub fn assert_install_is_refused<
     Ok(())
 }
 
-/// Bytes of the greatest holes in which a publish of one transfer has room, and no row of 64 places in a registry.
-const HOLES: usize = 2048;
+/// Bytes of the greatest holes in which a publish of one transfer has room, as do the 64 references of a row, but not 64 places
+/// in a registry.
+const HOLES: usize = 2304;
+
+/// Bytes of which each second hole is free: for the references of all rows twice, and for the tables of a transfer.
+const ROOM: usize = 1 << 19;
 
 /// Tables for which a registry makes room at first.
 const FIRST_ROOM: u64 = 32;
@@ -109,23 +95,17 @@ fn without_growth<'h>(
     alloc: Global,
     heap: &'h LocalHeap,
 ) -> Result<(Taken<'h>, Taken<'h>), Refusal> {
-    let rest = all_but(alloc, heap, 1 << 16)?;
+    let rest = all_but(alloc, heap, ROOM)?;
     let holes = all_but_holes(alloc, heap, HOLES)?;
     Ok((rest, holes))
 }
 
 /// An install for which a registry has to grow is refused memory, and hands the merged table back, which is installed then.
-pub fn assert_install_hands_back<
-    'r,
-    T: SealRows<A> + Drop,
-    A: Allocator + Copy,
-    S: StoreName,
-    C: VersionCopies<Version<'r, A, S>, S> + Drop,
->(
+pub fn assert_install_hands_back<F: Tried<A, S>, A: Allocator + Copy, S: StoreName>(
     rt: &(impl Abort + AllocGlobal + Wait),
     alloc: A,
     heap: &LocalHeap,
-    store: &mut StoreOf<'r, T, C, A, S>,
+    store: &mut F,
     shares: &mut [Share<S>],
 ) -> Result<(), Fail>
     requires { length shares.old ≡ 64 }
@@ -158,20 +138,14 @@ fn handed_back<M: Drop>(outcome: Result<(), Uninstalled<M>>) -> Result<M, Fail> 
 }
 
 /// Installs the next merge of a row while no registry can grow, which hands it back.
-fn install_without_growth<
-    'r,
-    T: SealRows<A> + Drop,
-    A: Allocator + Copy,
-    S: StoreName,
-    C: VersionCopies<Version<'r, A, S>, S> + Drop,
->(
+fn install_without_growth<F: Tried<A, S>, A: Allocator + Copy, S: StoreName>(
     rt: &(impl AllocGlobal + Wait),
     alloc: A,
     heap: &LocalHeap,
-    store: &mut StoreOf<'r, T, C, A, S>,
+    store: &mut F,
     row: Row,
-) -> Result<Merged<'r, A, S>, Fail> {
-    let job = store.pick(row).ok_or("no job")?;
+) -> Result<Merged<A, S>, Fail> {
+    let job = store.pick(row)?.ok_or("no job")?;
     let merged = job.merge(alloc)?;
     let taken = without_growth(rt.alloc(), heap)?;
     let outcome = store.install(rt, merged);
@@ -180,28 +154,21 @@ fn install_without_growth<
 }
 
 /// A store is as it was counted, and answers as its twin does.
-fn assert_unchanged<
-    'r,
-    T: SealRows<A> + Drop,
-    A: Allocator + Copy,
-    S: StoreName,
-    C: VersionCopies<Version<'r, A, S>, S> + Drop,
->(rt: &impl Abort, store: &StoreOf<'r, T, C, A, S>, twin: &Twin, counted: &Counted) {
+fn assert_unchanged<F: Tried<A, S>, A: Allocator + Copy, S: StoreName>(
+    rt: &impl Abort,
+    store: &F,
+    twin: &Twin,
+    counted: &Counted,
+) {
     assert_eq!(rt; Counted::of(store), *counted);
     assert_alike(rt, store, twin.plain());
 }
 
 /// A merged table is installed, as the table of this number.
-fn assert_installed<
-    'r,
-    T: SealRows<A> + Drop,
-    A: Allocator + Copy,
-    S: StoreName,
-    C: VersionCopies<Version<'r, A, S>, S> + Drop,
->(
+fn assert_installed<F: Tried<A, S>, A: Allocator + Copy, S: StoreName>(
     rt: &(impl Abort + Wait),
-    store: &mut StoreOf<'r, T, C, A, S>,
-    merged: Merged<'r, A, S>,
+    store: &mut F,
+    merged: Merged<A, S>,
     number: u32,
 ) {
     assert!(rt; store.install(rt, merged).is_ok());
@@ -209,17 +176,11 @@ fn assert_installed<
 }
 
 /// The next merge of the ids of transfers is handed back, and then installed.
-fn assert_handed_back<
-    'r,
-    T: SealRows<A> + Drop,
-    A: Allocator + Copy,
-    S: StoreName,
-    C: VersionCopies<Version<'r, A, S>, S> + Drop,
->(
+fn assert_handed_back<F: Tried<A, S>, A: Allocator + Copy, S: StoreName>(
     rt: &(impl Abort + AllocGlobal + Wait),
     alloc: A,
     heap: &LocalHeap,
-    store: &mut StoreOf<'r, T, C, A, S>,
+    store: &mut F,
     twin: &Twin,
 ) -> Result<(), Fail> {
     let counted = Counted::of(store);

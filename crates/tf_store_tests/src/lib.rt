@@ -23,6 +23,8 @@ mod idle;
 #[cfg(test)]
 mod installs;
 #[cfg(test)]
+mod kept;
+#[cfg(test)]
 mod limits;
 #[cfg(test)]
 mod memory;
@@ -43,7 +45,11 @@ mod refusals;
 #[cfg(test)]
 mod shares;
 #[cfg(test)]
+mod sustained;
+#[cfg(test)]
 mod trials;
+#[cfg(test)]
+mod tried;
 #[cfg(test)]
 mod twin;
 #[cfg(test)]

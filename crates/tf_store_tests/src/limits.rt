@@ -4,24 +4,21 @@ ghost use Rattle.std.specs.Prelude.{◌≡◌, length};
 use crate::alike::assert_alike;
 use crate::counted::Counted;
 use crate::events::{accounts, one_transfer};
+use crate::tried::Tried;
 use crate::twin::Twin;
 use std::alloc::Allocator;
 use std::process::Abort;
 use std::sync::Wait;
 use std::test::Fail;
-use tf_query::Version;
 use tf_records::Refusal;
-use tf_rows::SealRows;
-use tf_store::{Share, StoreName, StoreOf, VersionCopies};
+use tf_store::{Share, StoreName};
 
 /// A publish is refused for a full registry, and so is a version. Nothing has changed then.
-fn assert_full<
-    'r,
-    T: SealRows<A> + Drop,
-    A: Allocator + Copy,
-    S: StoreName,
-    C: VersionCopies<Version<'r, A, S>, S> + Drop,
->(rt: &(impl Abort + Wait), store: &mut StoreOf<'r, T, C, A, S>, twin: &Twin) {
+fn assert_full<F: Tried<A, S>, A: Allocator + Copy, S: StoreName>(
+    rt: &(impl Abort + Wait),
+    store: &mut F,
+    twin: &Twin,
+) {
     let counted = Counted::of(store);
     assert!(rt; matches!(store.publish(rt), Err(Refusal::RegistryFull)));
     assert!(rt; matches!(store.take_version(rt), Err(Refusal::RegistryFull)));
@@ -31,16 +28,10 @@ fn assert_full<
 
 /// Under a limit of 17, accounts and a transfer of one with history, which need 18 tables, are never published. The store
 /// goes on without.
-pub fn assert_18_are_refused<
-    'r,
-    T: SealRows<A> + Drop,
-    A: Allocator + Copy,
-    S: StoreName,
-    C: VersionCopies<Version<'r, A, S>, S> + Drop,
->(
+pub fn assert_18_are_refused<F: Tried<A, S>, A: Allocator + Copy, S: StoreName>(
     rt: &(impl Abort + AllocGlobal + Wait),
     alloc: A,
-    store: &mut StoreOf<'r, T, C, A, S>,
+    store: &mut F,
     shares: &mut [Share<S>],
 ) -> Result<(), Fail>
     requires { length shares.old ≡ 64 }
@@ -59,16 +50,10 @@ pub fn assert_18_are_refused<
 }
 
 /// Under a limit of 18 these are published, and so is a batch that stores nothing. One that stores something isn't.
-pub fn assert_18_are_published<
-    'r,
-    T: SealRows<A> + Drop,
-    A: Allocator + Copy,
-    S: StoreName,
-    C: VersionCopies<Version<'r, A, S>, S> + Drop,
->(
+pub fn assert_18_are_published<F: Tried<A, S>, A: Allocator + Copy, S: StoreName>(
     rt: &(impl Abort + AllocGlobal + Wait),
     alloc: A,
-    store: &mut StoreOf<'r, T, C, A, S>,
+    store: &mut F,
     shares: &mut [Share<S>],
 ) -> Result<(), Fail>
     requires { length shares.old ≡ 64 }

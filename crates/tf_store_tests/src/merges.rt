@@ -5,46 +5,34 @@ use crate::alike::assert_alike;
 use crate::answers::assert_answers;
 use crate::counted::{Counted, references};
 use crate::events::{accounts, round};
+use crate::tried::Tried;
 use crate::twin::Twin;
 use std::alloc::Allocator;
 use std::process::Abort;
 use std::sync::Wait;
 use std::test::Fail;
-use tf_manifest::{Merged, Row, Uninstalled};
-use tf_query::Version;
-use tf_rows::SealRows;
-use tf_store::{Share, StoreName, StoreOf, VersionCopies};
+use tf_manifest::{Merged, Row};
+use tf_registry::Uninstalled;
+use tf_store::{Share, StoreName};
 
 /// The next run of a row, merged twice, if there is one.
-fn merged_twice<
-    'r,
-    T: SealRows<A> + Drop,
-    A: Allocator + Copy,
-    S: StoreName,
-    C: VersionCopies<Version<'r, A, S>, S> + Drop,
->(
+fn merged_twice<F: Tried<A, S>, A: Allocator + Copy, S: StoreName>(
     alloc: A,
-    store: &StoreOf<'r, T, C, A, S>,
+    store: &F,
     row: Row,
-) -> Result<Option<(Merged<'r, A, S>, Merged<'r, A, S>)>, Fail> {
-    let (Some(first), Some(second)) = (store.pick(row), store.pick(row)) else {
+) -> Result<Option<(Merged<A, S>, Merged<A, S>)>, Fail> {
+    let (Some(first), Some(second)) = (store.pick(row)?, store.pick(row)?) else {
         return Ok(None);
     };
     Ok(Some((first.merge(alloc)?, second.merge(alloc)?)))
 }
 
 /// Of two merges of one run the first is installed, and the second is stale, which changes nothing.
-fn install_twice<
-    'r,
-    T: SealRows<A> + Drop,
-    A: Allocator + Copy,
-    S: StoreName,
-    C: VersionCopies<Version<'r, A, S>, S> + Drop,
->(
+fn install_twice<F: Tried<A, S>, A: Allocator + Copy, S: StoreName>(
     rt: &(impl Abort + Wait),
-    store: &mut StoreOf<'r, T, C, A, S>,
-    merged: Merged<'r, A, S>,
-    stale: Merged<'r, A, S>,
+    store: &mut F,
+    merged: Merged<A, S>,
+    stale: Merged<A, S>,
 ) {
     let before = Counted::of(store);
     assert!(rt; store.install(rt, merged).is_ok());
@@ -57,16 +45,10 @@ fn install_twice<
 
 /// Merges the next run of a row twice. The first merge is installed, after which look-ups and versions answer as before, and
 /// the second is stale. It tells whether there was a run.
-fn merge_twice<
-    'r,
-    T: SealRows<A> + Drop,
-    A: Allocator + Copy,
-    S: StoreName,
-    C: VersionCopies<Version<'r, A, S>, S> + Drop,
->(
+fn merge_twice<F: Tried<A, S>, A: Allocator + Copy, S: StoreName>(
     rt: &(impl Abort + AllocGlobal + Wait),
     alloc: A,
-    store: &mut StoreOf<'r, T, C, A, S>,
+    store: &mut F,
     twin: &Twin,
     row: Row,
 ) -> Result<bool, Fail> {
@@ -80,16 +62,10 @@ fn merge_twice<
 }
 
 /// Merges a row until it has no run more. It has one at least.
-fn merge_row<
-    'r,
-    T: SealRows<A> + Drop,
-    A: Allocator + Copy,
-    S: StoreName,
-    C: VersionCopies<Version<'r, A, S>, S> + Drop,
->(
+fn merge_row<F: Tried<A, S>, A: Allocator + Copy, S: StoreName>(
     rt: &(impl Abort + AllocGlobal + Wait),
     alloc: A,
-    store: &mut StoreOf<'r, T, C, A, S>,
+    store: &mut F,
     twin: &Twin,
     row: Row,
 ) -> Result<(), Fail> {
@@ -103,16 +79,10 @@ fn merge_row<
 }
 
 /// Eight rounds leave eight tables in each row, which are then merged to the end.
-pub fn assert_rows_are_merged<
-    'r,
-    T: SealRows<A> + Drop,
-    A: Allocator + Copy,
-    S: StoreName,
-    C: VersionCopies<Version<'r, A, S>, S> + Drop,
->(
+pub fn assert_rows_are_merged<F: Tried<A, S>, A: Allocator + Copy, S: StoreName>(
     rt: &(impl Abort + AllocGlobal + Wait),
     alloc: A,
-    store: &mut StoreOf<'r, T, C, A, S>,
+    store: &mut F,
     shares: &mut [Share<S>],
 ) -> Result<(), Fail>
     requires { length shares.old ≡ 64 }

@@ -4,26 +4,21 @@
 //! store stops at the checker's limit of steps.
 ghost use Rattle.std.specs.Prelude.{◌≡◌, ◌<◌, vec_len};
 ghost use Rattle.tf_manifest.specs.Registries.{AreShelves};
-ghost use Rattle.tf_store.specs.Rooms.{FitsRows};
 
 use crate::memory::all_but;
-use crate::readers::assert_closed;
 use crate::trials::Trial;
+use crate::tried::Tried;
 use linked_list_allocator::LocalHeap;
 use std::alloc::Allocator;
 use std::marker::Brand;
 use std::process::Abort;
 use std::sync::Wait;
 use std::test::Fail;
-use tf_forest::Forest;
 use tf_manifest::Registries;
-use tf_query::Version;
-use tf_readers::{Publishable, Reader, VersionOf};
+use tf_readers::{Publishable, Reader};
 use tf_records::Refusal;
-use tf_rows::{AllRows, EmptyRows, MutableTables, SealRows};
-use tf_store::{
-    BlankStore, NewStore, Share, Store, StoreName, StoreOf, StoredCopies, VersionCopies,
-};
+use tf_rows::{EmptyRows, MutableTables, SealRows};
+use tf_store::{BlankStore, NewStore, Share, Store, StoreName};
 
 /// How many shares each store has.
 const SHARES: u32 = 64;
@@ -32,9 +27,9 @@ const SHARES: u32 = 64;
 pub const AMPLE: usize = 1 << 22;
 
 /// The sum of all shares is the book.
-fn assert_gathered<R: AllRows + Drop, C: StoredCopies + Drop, A: Allocator + Copy, S: StoreName>(
+fn assert_gathered<F: Tried<A, S>, A: Allocator + Copy, S: StoreName>(
     rt: &impl Abort,
-    store: &mut Store<Forest<R, A>, C, A, S>,
+    store: &mut F,
     shares: Vec<Share<S>, A>,
 )
     requires { (0 < vec_len shares) × (vec_len shares ≡ S.parts) }
@@ -44,26 +39,24 @@ fn assert_gathered<R: AllRows + Drop, C: StoredCopies + Drop, A: Allocator + Cop
 }
 
 /// An empty store with its shares, on which a trial is run, unless there is no memory for it. At last the shares are gathered.
-fn with_rows<'r, T, A, S, V>(
+fn with_rows<T, A, S>(
     rt: &(impl Abort + AllocGlobal + Wait),
     alloc: A,
     heap: &LocalHeap,
-    registries: &'r Registries<A>,
+    registries: &Registries<A>,
     blank: BlankStore,
     trial: Trial,
 ) -> Result<(), Fail>
 where
     T: EmptyRows<A> + SealRows<A> + Drop,
-    V: VersionOf<Version<'r, A, S>> + Publishable + Drop,
     A: Allocator + Copy,
     S: StoreName,
-    requires fits { FitsRows T.row }
     requires name { blank.ledger.name ≡ S.name }
     requires parts { (blank.ledger.parts ≡ S.parts) × (S.parts ≡ 64) }
     requires history { blank.history ≡ S.history }
     requires registries { AreShelves S.shelf registries.now }
 {
-    let opened: Result<NewStore<'r, T, V, A, S, _>, Refusal> = Store::new(
+    let opened: Result<NewStore<T, A, S, _>, Refusal> = Store::new(
         alloc,
         rt,
         registries,
@@ -72,13 +65,8 @@ where
         trial.readers(),
     );
     match opened {
-        Ok((store, shares, mut readers)) => {
-            let readers = readers.as_mut_slice();
-            {
-                let mut store = store;
-                with_store(rt, alloc, heap, &mut store, shares, readers, trial)?;
-            }
-            assert_closed(rt, readers)
+        Ok((store, shares, readers)) => {
+            with_opened(rt, alloc, heap, store, shares, readers, trial)
         }
         Err(refusal) => {
             assert!(rt; trial.lacks_memory());
@@ -88,20 +76,43 @@ where
     }
 }
 
-/// A store on which a trial is run. At last its shares are gathered. It is generic in what readers enter.
-fn with_store<'r, T, A, S, V, C>(
+/// A store on which a trial is run, and which is dropped then.
+fn with_opened<F, A, S, V>(
     rt: &(impl Abort + AllocGlobal + Wait),
     alloc: A,
     heap: &LocalHeap,
-    store: &mut StoreOf<'r, T, C, A, S>,
+    mut store: F,
+    shares: Vec<Share<S>, A>,
+    mut readers: Vec<Reader<V, A, S>, A>,
+    trial: Trial,
+) -> Result<(), Fail>
+where
+    F: Tried<A, S> + Drop,
+    V: Publishable + Drop,
+    A: Allocator + Copy,
+    S: StoreName,
+    requires { (vec_len shares ≡ 64) × (S.parts ≡ 64) }
+{
+    let readers = readers.as_mut_slice();
+    let tried = with_store(rt, alloc, heap, &mut store, shares, readers, trial);
+    drop(store);
+    tried?;
+    trial.assert_dropped(rt, readers)
+}
+
+/// A store on which a trial is run. At last its shares are gathered. It is generic in what readers enter.
+fn with_store<F, A, S, V>(
+    rt: &(impl Abort + AllocGlobal + Wait),
+    alloc: A,
+    heap: &LocalHeap,
+    store: &mut F,
     mut shares: Vec<Share<S>, A>,
     readers: &mut [Reader<V, A, S>],
     trial: Trial,
 ) -> Result<(), Fail>
 where
-    T: SealRows<A> + Drop,
+    F: Tried<A, S>,
     V: Publishable + Drop,
-    C: VersionCopies<Version<'r, A, S>, S> + Drop,
     A: Allocator + Copy,
     S: StoreName,
     requires { (vec_len shares ≡ 64) × (S.parts ≡ 64) }
@@ -109,29 +120,6 @@ where
     trial.run(rt, alloc, heap, store, shares.as_mut_slice(), readers)?;
     assert_gathered(rt, store, shares);
     Ok(())
-}
-
-/// A store whose readers read versions. All that is generic in the version is below: type parameters stand in the same places
-/// in all of it, so that no check compares the parts of a version.
-fn with_version<'r, T, A, S>(
-    rt: &(impl Abort + AllocGlobal + Wait),
-    alloc: A,
-    heap: &LocalHeap,
-    registries: &'r Registries<A>,
-    blank: BlankStore,
-    trial: Trial,
-) -> Result<(), Fail>
-where
-    T: EmptyRows<A> + SealRows<A> + Drop,
-    A: Allocator + Copy,
-    S: StoreName,
-    requires fits { FitsRows T.row }
-    requires name { blank.ledger.name ≡ S.name }
-    requires parts { (blank.ledger.parts ≡ S.parts) × (S.parts ≡ 64) }
-    requires history { blank.history ≡ S.history }
-    requires registries { AreShelves S.shelf registries.now }
-{
-    with_rows::<T, A, S, Version<'r, A, S>>(rt, alloc, heap, registries, blank, trial)
 }
 
 /// A store whose mutable tables lie on a heap.
@@ -147,7 +135,7 @@ fn with_name<'h, S: StoreName>(
     requires history { blank.history ≡ S.history }
     requires registries { AreShelves S.shelf registries.now }
 {
-    with_version::<MutableTables<&'h LocalHeap>, &'h LocalHeap, S>(
+    with_rows::<MutableTables<&'h LocalHeap>, &'h LocalHeap, S>(
         rt, heap, heap, registries, blank, trial,
     )
 }
@@ -179,7 +167,7 @@ fn on_heap(
 
 /// Runs a trial on an empty store. Once the store and its registries are dropped, its heap is free again.
 pub fn try_out(rt: &(impl Abort + AllocGlobal + Wait), trial: Trial) -> Result<(), Fail> {
-    let heap = LocalHeap::new(rt.alloc(), AMPLE)?;
+    let heap = LocalHeap::new(rt.alloc(), trial.room())?;
     on_heap(rt, &heap, trial)?;
     assert_eq!(rt; heap.used(), 0);
     Ok(())

@@ -1,15 +1,14 @@
 //! Pulses: expiries count in a share, and leave no receipt.
 ghost use Rattle.std.specs.Prelude.{◌≡◌, length};
 
+use crate::tried::Tried;
 use crate::twin::Twin;
 use std::alloc::Allocator;
 use std::process::Abort;
 use std::sync::Wait;
 use std::test::Fail;
-use tf_query::Version;
-use tf_rows::SealRows;
 use tf_script::parse;
-use tf_store::{Share, StoreName, StoreOf, VersionCopies};
+use tf_store::{Share, StoreName};
 
 /// Two accounts and four pending transfers, of which three have a timeout. The second worker expires two of them and then
 /// the third.
@@ -30,16 +29,10 @@ const PULSES: &str = "accounts 1000\n\
     pulse 3000000000 10\n";
 
 /// Three transfers expire, two in one pulse and one in another.
-pub fn assert_pulses_are_counted<
-    'r,
-    T: SealRows<A> + Drop,
-    A: Allocator + Copy,
-    S: StoreName,
-    C: VersionCopies<Version<'r, A, S>, S> + Drop,
->(
+pub fn assert_pulses_are_counted<F: Tried<A, S>, A: Allocator + Copy, S: StoreName>(
     rt: &(impl Abort + AllocGlobal + Wait),
     alloc: A,
-    store: &mut StoreOf<'r, T, C, A, S>,
+    store: &mut F,
     shares: &mut [Share<S>],
 ) -> Result<(), Fail>
     requires { length shares.old ≡ 64 }

@@ -7,18 +7,17 @@ use crate::counted::Counted;
 use crate::events::{accounts, round};
 use crate::memory::all_but;
 use crate::plain::Plain;
+use crate::tried::Tried;
 use crate::twin::Twin;
 use linked_list_allocator::LocalHeap;
 use std::alloc::{Allocator, Global};
 use std::process::Abort;
 use std::sync::Wait;
 use std::test::Fail;
-use tf_query::Version;
 use tf_readers::{Asked, Found, Publishable, Reader};
 use tf_records::{Failure, Outcome};
-use tf_rows::SealRows;
 use tf_script::{Command, parse};
-use tf_store::{Events, Share, StoreName, StoreOf, VersionCopies};
+use tf_store::{Events, Share, StoreName};
 
 /// A reader sees what a ledger has, in a version of its own and in the one that it holds.
 fn assert_sees<V: Publishable + Drop, A: Allocator, S: StoreName>(
@@ -49,16 +48,15 @@ fn assert_all_see<V: Publishable + Drop, A: Allocator, S: StoreName>(
 }
 
 /// A publish, of whose last receipt a reader learns before it looks.
-fn publish_and_tell<'r, T, A, S, V, C>(
+fn publish_and_tell<F, A, S, V>(
     rt: &(impl Abort + AllocGlobal + Wait),
-    store: &mut StoreOf<'r, T, C, A, S>,
+    store: &mut F,
     reader: &mut Reader<V, A, S>,
     twin: &mut Twin,
 ) -> Result<(), Fail>
 where
-    T: SealRows<A> + Drop,
+    F: Tried<A, S>,
     V: Publishable + Drop,
-    C: VersionCopies<Version<'r, A, S>, S> + Drop,
     A: Allocator + Copy,
     S: StoreName,
 {
@@ -74,10 +72,10 @@ where
 
 /// A round that is stored and published: the readers see none of it before, and all of it then. The first learns of it from a
 /// receipt.
-fn assert_round_is_seen<'r, T, A, S, V, C>(
+fn assert_round_is_seen<F, A, S, V>(
     rt: &(impl Abort + AllocGlobal + Wait),
     alloc: A,
-    store: &mut StoreOf<'r, T, C, A, S>,
+    store: &mut F,
     shares: &mut [Share<S>],
     readers: &mut [Reader<V, A, S>],
     twin: &mut Twin,
@@ -85,9 +83,8 @@ fn assert_round_is_seen<'r, T, A, S, V, C>(
     commands: &[Command<Global>],
 ) -> Result<usize, Fail>
 where
-    T: SealRows<A> + Drop,
+    F: Tried<A, S>,
     V: Publishable + Drop,
-    C: VersionCopies<Version<'r, A, S>, S> + Drop,
     A: Allocator + Copy,
     S: StoreName,
     requires { length shares.old ≡ 64 }
@@ -112,18 +109,17 @@ fn stored(alloc: Global, number: u64) -> Result<[Command<Global>; 3], Fail> {
 }
 
 /// So many readers are given, and follow three rounds and a compaction.
-pub fn assert_readers_follow<'r, T, A, S, V, C>(
+pub fn assert_readers_follow<F, A, S, V>(
     rt: &(impl Abort + AllocGlobal + Wait),
     alloc: A,
-    store: &mut StoreOf<'r, T, C, A, S>,
+    store: &mut F,
     shares: &mut [Share<S>],
     readers: &mut [Reader<V, A, S>],
     count: u32,
 ) -> Result<(), Fail>
 where
-    T: SealRows<A> + Drop,
+    F: Tried<A, S>,
     V: Publishable + Drop,
-    C: VersionCopies<Version<'r, A, S>, S> + Drop,
     A: Allocator + Copy,
     S: StoreName,
     requires { length shares.old ≡ 64 }
@@ -184,18 +180,17 @@ fn account_seen<V: Publishable + Drop, A: Allocator, S: StoreName>(
 
 /// A publish hands out one receipt, of a batch at this clock with as many events as are told and this reply. A reader learns
 /// it.
-fn publish_one<'r, T, A, S, V, C>(
+fn publish_one<F, A, S, V>(
     rt: &(impl Abort + Wait),
-    store: &mut StoreOf<'r, T, C, A, S>,
+    store: &mut F,
     reader: &mut Reader<V, A, S>,
     clock: u64,
     events: usize,
     failures: &[Failure],
 ) -> Result<(), Fail>
 where
-    T: SealRows<A> + Drop,
+    F: Tried<A, S>,
     V: Publishable + Drop,
-    C: VersionCopies<Version<'r, A, S>, S> + Drop,
     A: Allocator + Copy,
     S: StoreName,
 {
@@ -217,16 +212,15 @@ where
 
 /// Accounts that weren't published yet are seen by no reader; once they are, the one that learned the receipt and the one that
 /// learned nothing see them.
-pub fn assert_worked_readers<'r, T, A, S, V, C>(
+pub fn assert_worked_readers<F, A, S, V>(
     rt: &(impl Abort + AllocGlobal + Wait),
-    store: &mut StoreOf<'r, T, C, A, S>,
+    store: &mut F,
     share: &mut Share<S>,
     readers: &mut [Reader<V, A, S>],
 ) -> Result<(), Fail>
 where
-    T: SealRows<A> + Drop,
+    F: Tried<A, S>,
     V: Publishable + Drop,
-    C: VersionCopies<Version<'r, A, S>, S> + Drop,
     A: Allocator + Copy,
     S: StoreName,
 {
@@ -250,17 +244,16 @@ where
 }
 
 /// A version publishes too, but for receipts.
-fn assert_version_keeps_receipts<'r, T, A, S, V, C>(
+fn assert_version_keeps_receipts<F, A, S, V>(
     rt: &(impl Abort + Wait),
-    store: &mut StoreOf<'r, T, C, A, S>,
+    store: &mut F,
     share: &mut Share<S>,
     learner: &mut Reader<V, A, S>,
     transfer: &Command<Global>,
 ) -> Result<(), Fail>
 where
-    T: SealRows<A> + Drop,
+    F: Tried<A, S>,
     V: Publishable + Drop,
-    C: VersionCopies<Version<'r, A, S>, S> + Drop,
     A: Allocator + Copy,
     S: StoreName,
 {
@@ -270,17 +263,16 @@ where
 }
 
 /// Runs a transfer that is stored already, and publishes its receipt.
-fn publish_again<'r, T, A, S, V, C>(
+fn publish_again<F, A, S, V>(
     rt: &(impl Abort + Wait),
-    store: &mut StoreOf<'r, T, C, A, S>,
+    store: &mut F,
     share: &mut Share<S>,
     learner: &mut Reader<V, A, S>,
     again: &Command<Global>,
 ) -> Result<(), Fail>
 where
-    T: SealRows<A> + Drop,
+    F: Tried<A, S>,
     V: Publishable + Drop,
-    C: VersionCopies<Version<'r, A, S>, S> + Drop,
     A: Allocator + Copy,
     S: StoreName,
 {
@@ -293,17 +285,16 @@ where
 }
 
 /// A batch that stores nothing pushes no table.
-fn assert_nothing_is_pushed<'r, T, A, S, V, C>(
+fn assert_nothing_is_pushed<F, A, S, V>(
     rt: &(impl Abort + Wait),
-    store: &mut StoreOf<'r, T, C, A, S>,
+    store: &mut F,
     share: &mut Share<S>,
     learner: &mut Reader<V, A, S>,
     again: &Command<Global>,
 ) -> Result<(), Fail>
 where
-    T: SealRows<A> + Drop,
+    F: Tried<A, S>,
     V: Publishable + Drop,
-    C: VersionCopies<Version<'r, A, S>, S> + Drop,
     A: Allocator + Copy,
     S: StoreName,
 {
@@ -333,18 +324,17 @@ fn assert_sees_without_memory<V: Publishable + Drop, A: Allocator, S: StoreName>
 
 /// A reader keeps a version, and holds another, through five rounds and a compaction. Both stay what they were until it
 /// follows.
-pub fn assert_reader_keeps<'r, T, A, S, V, C>(
+pub fn assert_reader_keeps<F, A, S, V>(
     rt: &(impl Abort + AllocGlobal + Wait),
     alloc: A,
     heap: &LocalHeap,
-    store: &mut StoreOf<'r, T, C, A, S>,
+    store: &mut F,
     shares: &mut [Share<S>],
     reader: &mut Reader<V, A, S>,
 ) -> Result<(), Fail>
 where
-    T: SealRows<A> + Drop,
+    F: Tried<A, S>,
     V: Publishable + Drop,
-    C: VersionCopies<Version<'r, A, S>, S> + Drop,
     A: Allocator + Copy,
     S: StoreName,
     requires { length shares.old ≡ 64 }

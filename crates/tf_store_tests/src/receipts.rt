@@ -1,16 +1,15 @@
 //! Receipts: each publish hands out those of all batches that waited.
 ghost use Rattle.std.specs.Prelude.{◌≡◌, length};
 
+use crate::tried::Tried;
 use crate::twin::Twin;
 use std::alloc::Allocator;
 use std::process::Abort;
 use std::sync::Wait;
 use std::test::Fail;
-use tf_query::Version;
 use tf_records::{Failure, Outcome};
-use tf_rows::SealRows;
 use tf_script::parse;
-use tf_store::{Share, StoreName, StoreOf, VersionCopies};
+use tf_store::{Share, StoreName};
 
 /// Batches that two workers store in turn: some events fail, all of them, or there are none. The fourth event of transfers
 /// fails for a passing reason, and its id stays failed.
@@ -82,16 +81,10 @@ const LATER: &str = "transfers 0\n\
     end\n";
 
 /// The first publish hands out six receipts, the second none, and the third the one of the batch since then.
-pub fn assert_receipts_are_handed_out<
-    'r,
-    T: SealRows<A> + Drop,
-    A: Allocator + Copy,
-    S: StoreName,
-    C: VersionCopies<Version<'r, A, S>, S> + Drop,
->(
+pub fn assert_receipts_are_handed_out<F: Tried<A, S>, A: Allocator + Copy, S: StoreName>(
     rt: &(impl Abort + AllocGlobal + Wait),
     alloc: A,
-    store: &mut StoreOf<'r, T, C, A, S>,
+    store: &mut F,
     shares: &mut [Share<S>],
 ) -> Result<(), Fail>
     requires { length shares.old ≡ 64 }
@@ -112,15 +105,9 @@ pub fn assert_receipts_are_handed_out<
 }
 
 /// The receipts of the worked batches.
-fn assert_six_handed_out<
-    'r,
-    T: SealRows<A> + Drop,
-    A: Allocator + Copy,
-    S: StoreName,
-    C: VersionCopies<Version<'r, A, S>, S> + Drop,
->(
+fn assert_six_handed_out<F: Tried<A, S>, A: Allocator + Copy, S: StoreName>(
     rt: &(impl Abort + Wait),
-    store: &mut StoreOf<'r, T, C, A, S>,
+    store: &mut F,
     twin: &mut Twin,
 ) -> Result<(), Fail> {
     let receipts = store.publish(rt)?;

@@ -8,36 +8,34 @@ use crate::counted::{Counted, references};
 use crate::events::{accounts, round};
 use crate::memory::all_but;
 use crate::opening::AMPLE;
+use crate::tried::Tried;
 use crate::twin::Twin;
 use linked_list_allocator::LocalHeap;
 use std::alloc::{Allocator, Global};
 use std::process::Abort;
 use std::sync::Wait;
 use std::test::Fail;
-use tf_query::Version;
 use tf_records::Refusal;
-use tf_rows::SealRows;
 use tf_script::Command;
-use tf_store::{Share, StoreName, StoreOf, VersionCopies};
+use tf_store::{Share, StoreName};
 
-/// How many bytes more are free at each further try.
+/// How many bytes more are free at each further try of a batch or a pulse.
 const STEP: usize = 3 * OFFSET;
 
 /// How many bytes more are free at the first try of each further round, up to the third.
 const OFFSET: usize = 48;
 
+/// The same of a publish, which takes some 90 KB for the references of all rows, 2 KB for each row at a time.
+const PUBLISH_STEP: usize = 3 * PUBLISH_OFFSET;
+
+const PUBLISH_OFFSET: usize = 240;
+
 /// Runs a batch or a pulse with hardly any room at first and then more and more, until it isn't refused any more. After each
 /// refusal all is as before, and at last it answers as the plain ledger does. Tells how often it was refused.
-fn run_at_last<
-    'r,
-    T: SealRows<A> + Drop,
-    A: Allocator + Copy,
-    S: StoreName,
-    C: VersionCopies<Version<'r, A, S>, S> + Drop,
->(
+fn run_at_last<F: Tried<A, S>, A: Allocator + Copy, S: StoreName>(
     rt: &(impl Abort + AllocGlobal),
     heap: &LocalHeap,
-    store: &mut StoreOf<'r, T, C, A, S>,
+    store: &mut F,
     share: &mut Share<S>,
     twin: &mut Twin,
     command: &Command<Global>,
@@ -59,13 +57,12 @@ fn run_at_last<
 }
 
 /// A refused publish has left all as before, but for tables that were pushed.
-fn assert_unpublished<
-    'r,
-    T: SealRows<A> + Drop,
-    A: Allocator + Copy,
-    S: StoreName,
-    C: VersionCopies<Version<'r, A, S>, S> + Drop,
->(rt: &impl Abort, store: &StoreOf<'r, T, C, A, S>, twin: &Twin, before: &Counted) {
+fn assert_unpublished<F: Tried<A, S>, A: Allocator + Copy, S: StoreName>(
+    rt: &impl Abort,
+    store: &F,
+    twin: &Twin,
+    before: &Counted,
+) {
     assert_alike(rt, store, twin.plain());
     assert_eq!(rt; references(store), before.references);
     assert!(rt; store.registered() >= before.registered);
@@ -74,22 +71,20 @@ fn assert_unpublished<
 
 /// Publishes with hardly any room at first and then more and more. At last it hands out the receipts of all that waited. Tells
 /// how often it was refused.
-fn publish_at_last<
-    'r,
-    T: SealRows<A> + Drop,
-    A: Allocator + Copy,
-    S: StoreName,
-    C: VersionCopies<Version<'r, A, S>, S> + Drop,
->(
+fn publish_at_last<F: Tried<A, S>, A: Allocator + Copy, S: StoreName>(
     rt: &(impl Abort + AllocGlobal + Wait),
     heap: &LocalHeap,
-    store: &mut StoreOf<'r, T, C, A, S>,
+    store: &mut F,
     twin: &mut Twin,
     least: usize,
 ) -> Result<usize, Fail> {
     let before = Counted::of(store);
-    for refused in 0..AMPLE / STEP {
-        let taken = all_but(rt.alloc(), heap, (refused * STEP).saturating_add(least))?;
+    for refused in 0..AMPLE / PUBLISH_STEP {
+        let taken = all_but(
+            rt.alloc(),
+            heap,
+            (refused * PUBLISH_STEP).saturating_add(least),
+        )?;
         let outcome = store.publish(rt);
         drop(taken);
         match outcome {
@@ -107,22 +102,20 @@ fn publish_at_last<
 
 /// Takes a version with hardly any room at first and then more and more. At last it answers as the plain ledger does, and
 /// receipts go on waiting. Tells how often it was refused.
-fn take_version_at_last<
-    'r,
-    T: SealRows<A> + Drop,
-    A: Allocator + Copy,
-    S: StoreName,
-    C: VersionCopies<Version<'r, A, S>, S> + Drop,
->(
+fn take_version_at_last<F: Tried<A, S>, A: Allocator + Copy, S: StoreName>(
     rt: &(impl Abort + AllocGlobal + Wait),
     heap: &LocalHeap,
-    store: &mut StoreOf<'r, T, C, A, S>,
+    store: &mut F,
     twin: &Twin,
     least: usize,
 ) -> Result<usize, Fail> {
     let before = Counted::of(store);
-    for refused in 0..AMPLE / STEP {
-        let taken = all_but(rt.alloc(), heap, (refused * STEP).saturating_add(least))?;
+    for refused in 0..AMPLE / PUBLISH_STEP {
+        let taken = all_but(
+            rt.alloc(),
+            heap,
+            (refused * PUBLISH_STEP).saturating_add(least),
+        )?;
         let outcome = store.take_version(rt);
         drop(taken);
         match outcome {
@@ -138,20 +131,14 @@ fn take_version_at_last<
 }
 
 /// A publish that is refused in turn. In each second round a version is taken first, which publishes too, but for receipts.
-fn assert_publish_refused<
-    'r,
-    T: SealRows<A> + Drop,
-    A: Allocator + Copy,
-    S: StoreName,
-    C: VersionCopies<Version<'r, A, S>, S> + Drop,
->(
+fn assert_publish_refused<F: Tried<A, S>, A: Allocator + Copy, S: StoreName>(
     rt: &(impl Abort + AllocGlobal + Wait),
     heap: &LocalHeap,
-    store: &mut StoreOf<'r, T, C, A, S>,
+    store: &mut F,
     twin: &mut Twin,
     number: u64,
-    least: usize,
 ) -> Result<(), Fail> {
+    let least = (number as usize % 3) * PUBLISH_OFFSET;
     let is_second = number % 2 == 1;
     if is_second {
         let refused = take_version_at_last(rt, heap, store, twin, least)?;
@@ -163,16 +150,10 @@ fn assert_publish_refused<
 }
 
 /// Batches, a pulse and a publish, each refused in turn.
-fn assert_round_refused<
-    'r,
-    T: SealRows<A> + Drop,
-    A: Allocator + Copy,
-    S: StoreName,
-    C: VersionCopies<Version<'r, A, S>, S> + Drop,
->(
+fn assert_round_refused<F: Tried<A, S>, A: Allocator + Copy, S: StoreName>(
     rt: &(impl Abort + AllocGlobal + Wait),
     heap: &LocalHeap,
-    store: &mut StoreOf<'r, T, C, A, S>,
+    store: &mut F,
     share: &mut Share<S>,
     twin: &mut Twin,
     number: u64,
@@ -181,7 +162,7 @@ fn assert_round_refused<
     let commands = round(rt.alloc(), number)?;
     for (place, command) in commands.iter().enumerate() {
         if let Command::Publish = command {
-            assert_publish_refused(rt, heap, store, twin, number, least)?;
+            assert_publish_refused(rt, heap, store, twin, number)?;
         } else {
             let refused = run_at_last(rt, heap, store, share, twin, command, least)?;
             // The room that a pulse asks for stays, so that later ones may need no more.
@@ -196,17 +177,11 @@ fn assert_round_refused<
 }
 
 /// Four rounds of calls, each refused in turn.
-pub fn assert_refused_in_turn<
-    'r,
-    T: SealRows<A> + Drop,
-    A: Allocator + Copy,
-    S: StoreName,
-    C: VersionCopies<Version<'r, A, S>, S> + Drop,
->(
+pub fn assert_refused_in_turn<F: Tried<A, S>, A: Allocator + Copy, S: StoreName>(
     rt: &(impl Abort + AllocGlobal + Wait),
     alloc: A,
     heap: &LocalHeap,
-    store: &mut StoreOf<'r, T, C, A, S>,
+    store: &mut F,
     shares: &mut [Share<S>],
 ) -> Result<(), Fail>
     requires { length shares.old ≡ 64 }

@@ -2,26 +2,19 @@
 ghost use Rattle.std.specs.Prelude.{◌≡◌, length};
 
 use crate::events::{accounts, one_transfer};
+use crate::tried::Tried;
 use crate::twin::Twin;
 use std::alloc::Allocator;
 use std::process::Abort;
 use std::sync::Wait;
 use std::test::Fail;
-use tf_query::Version;
-use tf_rows::SealRows;
-use tf_store::{Share, StoreName, StoreOf, VersionCopies};
+use tf_store::{Share, StoreName};
 
 /// The first of 64 shares stores four accounts, and then each a transfer.
-pub fn assert_each_share_counts<
-    'r,
-    T: SealRows<A> + Drop,
-    A: Allocator + Copy,
-    S: StoreName,
-    C: VersionCopies<Version<'r, A, S>, S> + Drop,
->(
+pub fn assert_each_share_counts<F: Tried<A, S>, A: Allocator + Copy, S: StoreName>(
     rt: &(impl Abort + AllocGlobal + Wait),
     alloc: A,
-    store: &mut StoreOf<'r, T, C, A, S>,
+    store: &mut F,
     shares: &mut [Share<S>],
 ) -> Result<(), Fail>
     requires { length shares.old ≡ 64 }

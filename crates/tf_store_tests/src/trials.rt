@@ -5,25 +5,28 @@ use crate::batches::assert_limits_of_batches;
 use crate::dropped::drop_after_calls;
 use crate::idle::assert_idle_publish_takes_nothing;
 use crate::installs::{FIVE_PUBLISHES, assert_install_hands_back, assert_install_is_refused};
+use crate::kept::{assert_held_on, assert_holders_let_go, hold_to_the_end};
 use crate::limits::{assert_18_are_published, assert_18_are_refused};
 use crate::merges::assert_rows_are_merged;
-use crate::opening::try_out;
+use crate::opening::{AMPLE, try_out};
 use crate::pulses::assert_pulses_are_counted;
-use crate::readers::{assert_reader_keeps, assert_readers_follow, assert_worked_readers};
+use crate::readers::{
+    assert_closed, assert_reader_keeps, assert_readers_follow, assert_worked_readers,
+};
 use crate::receipts::assert_receipts_are_handed_out;
 use crate::refusals::assert_refused_in_turn;
 use crate::shares::assert_each_share_counts;
+use crate::sustained::{self, assert_memory_suffices};
+use crate::tried::Tried;
 use crate::versions::{assert_random_alike, assert_version_stays};
 use linked_list_allocator::LocalHeap;
 use std::alloc::Allocator;
 use std::process::Abort;
 use std::sync::Wait;
 use std::test::Fail;
-use tf_manifest::Pushes;
-use tf_query::Version;
 use tf_readers::{Publishable, Reader};
-use tf_rows::SealRows;
-use tf_store::{Share, StoreName, StoreOf, VersionCopies};
+use tf_registry::Pushes;
+use tf_store::{Share, StoreName};
 
 /// What is tried of an empty store with 64 shares.
 #[derive(Clone, Copy)]
@@ -64,6 +67,12 @@ pub enum Trial {
     Readers(u32),
     /// A reader keeps a version while the store goes on.
     Kept,
+    /// A reader holds a version until after its store is dropped.
+    Outlives,
+    /// A reader lets go of a version that it held for long.
+    LetGo,
+    /// A thousand publishes with merges in little memory.
+    Sustained,
 }
 
 impl Trial {
@@ -81,8 +90,30 @@ impl Trial {
     pub fn readers(self) -> u32 {
         match self {
             Trial::Readers(count) => count,
-            Trial::Worked => 2,
+            Trial::Worked | Trial::LetGo => 2,
             _ => 1,
+        }
+    }
+
+    /// Bytes of the store's heap.
+    pub fn room(self) -> usize {
+        match self {
+            Trial::Sustained => sustained::ROOM,
+            _ => AMPLE,
+        }
+    }
+
+    /// Once a store is dropped its readers see nothing more, and what each holds stays.
+    pub fn assert_dropped<V: Publishable + Drop, A: Allocator, S: StoreName>(
+        self,
+        rt: &(impl Abort + AllocGlobal),
+        readers: &mut [Reader<V, A, S>],
+    ) -> Result<(), Fail> {
+        assert_closed(rt, readers)?;
+        match (self, readers.first()) {
+            (Trial::Outlives, Some(reader)) => assert_held_on(rt, reader),
+            (Trial::Outlives, None) => Err(Fail::new("no reader")),
+            _ => Ok(()),
         }
     }
 
@@ -92,19 +123,18 @@ impl Trial {
     }
 
     /// Runs the trial on a store that lies on a heap.
-    pub fn run<'r, T, A, S, V, C>(
+    pub fn run<F, A, S, V>(
         self,
         rt: &(impl Abort + AllocGlobal + Wait),
         alloc: A,
         heap: &LocalHeap,
-        store: &mut StoreOf<'r, T, C, A, S>,
+        store: &mut F,
         shares: &mut [Share<S>],
         readers: &mut [Reader<V, A, S>],
     ) -> Result<(), Fail>
     where
-        T: SealRows<A> + Drop,
+        F: Tried<A, S>,
         V: Publishable + Drop,
-        C: VersionCopies<Version<'r, A, S>, S> + Drop,
         A: Allocator + Copy,
         S: StoreName,
         requires { length shares.old ≡ 64 }
@@ -130,6 +160,12 @@ impl Trial {
             Trial::Readers(count) => {
                 assert_readers_follow(rt, alloc, store, shares, readers, count)
             }
+            Trial::LetGo => assert_holders_let_go(rt, alloc, heap, store, shares, readers),
+            Trial::Sustained => assert_memory_suffices(rt, alloc, heap, store, &mut shares[0]),
+            Trial::Outlives => match readers.first_mut() {
+                Some(reader) => hold_to_the_end(rt, alloc, store, shares, reader),
+                None => Err(Fail::new("no reader")),
+            },
             Trial::Kept => match readers.first_mut() {
                 Some(reader) => assert_reader_keeps(rt, alloc, heap, store, shares, reader),
                 None => Err(Fail::new("no reader")),
@@ -239,4 +275,21 @@ fn a_reader_keeps_its_version_whatever_is_published_and_merged(
     rt: HostRuntime,
 ) -> Result<(), Fail> {
     try_out(&rt, Trial::Kept)
+}
+
+#[test]
+fn a_version_that_a_reader_holds_outlives_its_store(rt: HostRuntime) -> Result<(), Fail> {
+    try_out(&rt, Trial::Outlives)
+}
+
+#[test]
+fn what_a_reader_alone_held_comes_back_once_it_lets_go(rt: HostRuntime) -> Result<(), Fail> {
+    try_out(&rt, Trial::LetGo)
+}
+
+#[test]
+fn memory_for_a_thousand_merged_publishes_is_that_of_what_is_kept(
+    rt: HostRuntime,
+) -> Result<(), Fail> {
+    try_out(&rt, Trial::Sustained)
 }

@@ -4,16 +4,15 @@ ghost use Rattle.std.specs.Prelude.{◌≡◌, ◌<◌, length};
 use crate::alike::assert_alike;
 use crate::commands::{Answer, Outcome, is_same, merge_all, run};
 use crate::plain::Plain;
+use crate::tried::Tried;
 use std::alloc::{Allocator, Global};
 use std::process::Abort;
 use std::sync::Wait;
 use std::test::Fail;
 use tf_journal::Ledger;
-use tf_query::Version;
 use tf_records::Reply;
-use tf_rows::SealRows;
 use tf_script::Command;
-use tf_store::{Events, Receipt, Share, StoreName, StoreOf, VersionCopies};
+use tf_store::{Events, Receipt, Share, StoreName};
 
 /// A batch whose receipt waits, as the plain ledger ran it.
 #[derive(Drop)]
@@ -46,16 +45,10 @@ impl Twin {
     }
 
     /// Runs a batch or a pulse on both, which answer alike and are alike then.
-    pub fn run<
-        'r,
-        T: SealRows<A> + Drop,
-        A: Allocator + Copy,
-        S: StoreName,
-        C: VersionCopies<Version<'r, A, S>, S> + Drop,
-    >(
+    pub fn run<F: Tried<A, S>, A: Allocator + Copy, S: StoreName>(
         &mut self,
         rt: &(impl Abort + AllocGlobal),
-        store: &mut StoreOf<'r, T, C, A, S>,
+        store: &mut F,
         share: &mut Share<S>,
         command: &Command<Global>,
     ) -> Result<(), Fail> {
@@ -64,16 +57,10 @@ impl Twin {
     }
 
     /// Runs a batch or a pulse that the store ran, with the same outcome.
-    pub fn follow<
-        'r,
-        T: SealRows<A> + Drop,
-        A: Allocator + Copy,
-        S: StoreName,
-        C: VersionCopies<Version<'r, A, S>, S> + Drop,
-    >(
+    pub fn follow<F: Tried<A, S>, A: Allocator + Copy, S: StoreName>(
         &mut self,
         rt: &(impl Abort + AllocGlobal),
-        store: &StoreOf<'r, T, C, A, S>,
+        store: &F,
         outcome: &Outcome<A>,
         command: &Command<Global>,
     ) -> Result<(), Fail> {
@@ -92,16 +79,10 @@ impl Twin {
     }
 
     /// Publishes the store. Tells how many receipts it hands out.
-    pub fn publish<
-        'r,
-        T: SealRows<A> + Drop,
-        A: Allocator + Copy,
-        S: StoreName,
-        C: VersionCopies<Version<'r, A, S>, S> + Drop,
-    >(
+    pub fn publish<F: Tried<A, S>, A: Allocator + Copy, S: StoreName>(
         &mut self,
         rt: &(impl Abort + Wait),
-        store: &mut StoreOf<'r, T, C, A, S>,
+        store: &mut F,
     ) -> Result<usize, Fail> {
         let receipts = store.publish(rt)?;
         self.assert_receipts(rt, receipts.as_slice());
@@ -125,17 +106,11 @@ impl Twin {
     }
 
     /// Runs a command on both. The store publishes or merges all rows where it says so.
-    fn run_command<
-        'r,
-        T: SealRows<A> + Drop,
-        A: Allocator + Copy,
-        S: StoreName,
-        C: VersionCopies<Version<'r, A, S>, S> + Drop,
-    >(
+    fn run_command<F: Tried<A, S>, A: Allocator + Copy, S: StoreName>(
         &mut self,
         rt: &(impl Abort + AllocGlobal + Wait),
         alloc: A,
-        store: &mut StoreOf<'r, T, C, A, S>,
+        store: &mut F,
         share: &mut Share<S>,
         command: &Command<Global>,
     ) -> Result<(), Fail> {
@@ -153,17 +128,11 @@ impl Twin {
     }
 
     /// Runs all commands on both, with the first two shares in turn.
-    pub fn run_all<
-        'r,
-        T: SealRows<A> + Drop,
-        A: Allocator + Copy,
-        S: StoreName,
-        C: VersionCopies<Version<'r, A, S>, S> + Drop,
-    >(
+    pub fn run_all<F: Tried<A, S>, A: Allocator + Copy, S: StoreName>(
         &mut self,
         rt: &(impl Abort + AllocGlobal + Wait),
         alloc: A,
-        store: &mut StoreOf<'r, T, C, A, S>,
+        store: &mut F,
         shares: &mut [Share<S>],
         commands: &[Command<Global>],
     ) -> Result<(), Fail>

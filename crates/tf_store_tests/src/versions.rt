@@ -4,27 +4,20 @@ ghost use Rattle.std.specs.Prelude.{◌≡◌, length};
 use crate::answers::assert_answers;
 use crate::events::{accounts, any_commands, round};
 use crate::plain::Plain;
+use crate::tried::Tried;
 use crate::twin::Twin;
 use std::alloc::Allocator;
 use std::process::Abort;
 use std::sync::Wait;
 use std::test::Fail;
-use tf_query::Version;
-use tf_rows::SealRows;
 use tf_script::Command;
-use tf_store::{Share, StoreName, StoreOf, VersionCopies};
+use tf_store::{Share, StoreName};
 
 /// A version is taken, and stays what it was through five rounds and a compaction. Receipts wait for a publish.
-pub fn assert_version_stays<
-    'r,
-    T: SealRows<A> + Drop,
-    A: Allocator + Copy,
-    S: StoreName,
-    C: VersionCopies<Version<'r, A, S>, S> + Drop,
->(
+pub fn assert_version_stays<F: Tried<A, S>, A: Allocator + Copy, S: StoreName>(
     rt: &(impl Abort + AllocGlobal + Wait),
     alloc: A,
-    store: &mut StoreOf<'r, T, C, A, S>,
+    store: &mut F,
     shares: &mut [Share<S>],
 ) -> Result<(), Fail>
     requires { length shares.old ≡ 64 }
@@ -51,16 +44,10 @@ pub fn assert_version_stays<
 
 /// A store and the plain ledger answer random commands alike, with publishes and compactions among them, and so does a
 /// version at last.
-pub fn assert_random_alike<
-    'r,
-    T: SealRows<A> + Drop,
-    A: Allocator + Copy,
-    S: StoreName,
-    C: VersionCopies<Version<'r, A, S>, S> + Drop,
->(
+pub fn assert_random_alike<F: Tried<A, S>, A: Allocator + Copy, S: StoreName>(
     rt: &(impl Abort + AllocGlobal + Wait),
     alloc: A,
-    store: &mut StoreOf<'r, T, C, A, S>,
+    store: &mut F,
     shares: &mut [Share<S>],
     seed: u64,
 ) -> Result<(), Fail>

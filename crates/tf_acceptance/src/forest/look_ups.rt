@@ -13,8 +13,8 @@ pub fn assert_alike<L: Ledger, M: Ledger, A: Allocator>(
     forest: &M,
     command: &Command<A>,
 ) {
-    assert_eq!(rt; forest.clock(), plain.clock());
-    assert_eq!(rt; forest.mark(), plain.mark());
+    assert!(rt; forest.clock() == plain.clock());
+    assert!(rt; forest.mark() == plain.mark());
     assert_due_alike(rt, plain, forest, plain.clock());
     assert_due_alike(rt, plain, forest, u64::MAX);
     assert_named_alike(rt, plain, forest, command);
@@ -80,26 +80,20 @@ fn assert_transfers_alike<L: Ledger, M: Ledger>(
 
 fn assert_account_alike<L: Ledger, M: Ledger>(rt: &impl Abort, plain: &L, forest: &M, id: u128) {
     let expected = plain.account(id);
-    assert_eq!(rt; forest.account(id), expected);
+    assert!(rt; forest.account(id) == expected);
     if let Some(account) = expected {
         // An account's timestamp is that of no pending transfer.
-        assert_eq!(rt;
-            forest.status(account.timestamp),
-            plain.status(account.timestamp)
-        );
+        assert!(rt; forest.status(account.timestamp) == plain.status(account.timestamp));
     }
 }
 
 fn assert_transfer_alike<L: Ledger, M: Ledger>(rt: &impl Abort, plain: &L, forest: &M, id: u128) {
     let expected = plain.transfer(id);
-    assert_eq!(rt; forest.transfer(id), expected);
-    assert_eq!(rt; forest.failed(id), plain.failed(id));
-    assert_eq!(rt; forest.id_use(id), plain.id_use(id));
+    assert!(rt; forest.transfer(id) == expected);
+    assert!(rt; forest.failed(id) == plain.failed(id));
+    assert!(rt; forest.id_use(id) == plain.id_use(id));
     if let Some(transfer) = expected {
-        assert_eq!(rt;
-            forest.status(transfer.timestamp),
-            plain.status(transfer.timestamp)
-        );
+        assert!(rt; forest.status(transfer.timestamp) == plain.status(transfer.timestamp));
         assert_expiry_alike(rt, plain, forest, &transfer);
     }
 }
@@ -120,11 +114,8 @@ fn assert_expiry_alike<L: Ledger, M: Ledger>(
 
 /// What is due at a moment.
 fn assert_due_alike<L: Ledger, M: Ledger>(rt: &impl Abort, plain: &L, forest: &M, moment: u64) {
-    assert_eq!(rt; forest.next_due(moment), plain.next_due(moment));
+    assert!(rt; forest.next_due(moment) == plain.next_due(moment));
     for most in [0, 1, 2, u32::MAX] {
-        assert_eq!(rt;
-            forest.due_count(moment, most),
-            plain.due_count(moment, most)
-        );
+        assert!(rt; forest.due_count(moment, most) == plain.due_count(moment, most));
     }
 }

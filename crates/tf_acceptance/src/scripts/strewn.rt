@@ -2,6 +2,7 @@
 //! plain ledger.
 
 use super::lines::push_command;
+use crate::asserts::assert_at;
 use crate::dice::Dice;
 use crate::random;
 use std::alloc::AllocError;
@@ -112,7 +113,12 @@ pub fn assert_scripts_alike(rt: &(impl Abort + AllocGlobal + Wait)) -> Result<()
         run_script_plainly(rt.alloc(), script.as_bytes(), &mut expected)?;
         let mut written = Vec::new(rt.alloc());
         run_script(rt, rt.alloc(), script.as_bytes(), &mut written)?;
-        assert!(rt; written.as_slice() == expected.as_slice(), "script {seed}");
+        assert_at(
+            rt,
+            written.as_slice() == expected.as_slice(),
+            "script",
+            seed,
+        );
     }
     Ok(())
 }

@@ -6,10 +6,10 @@ use tf_journal::{
     PlainLedger, get_account_balances, get_account_transfers, lookup_accounts, lookup_transfers,
     query_accounts, query_transfers,
 };
-use tf_manifest::Naming;
 use tf_query::Version;
 use tf_query_all::Answer;
 use tf_records::Refusal;
+use tf_registry::Naming;
 use tf_script::{Command, Query};
 
 /// The rows that a command asks for, or none where it asks for nothing.
@@ -47,7 +47,7 @@ pub fn ask_plain<A: Allocator + Copy, B: Allocator>(
 /// What a version answers.
 pub fn ask<A: Allocator, N: Naming, B: Allocator + Copy, C: Allocator>(
     alloc: B,
-    version: &Version<'_, A, N>,
+    version: &Version<A, N>,
     question: &Command<C>,
 ) -> Outcome<B> {
     Ok(Some(match question {
@@ -111,7 +111,7 @@ pub fn count_of<A: Allocator>(outcome: &Outcome<A>) -> usize {
 /// A version answers a command as the plain ledger does. Tells how many rows the answer has.
 pub fn assert_answer<A: Allocator, N: Naming, B: Allocator>(
     rt: &(impl Abort + AllocGlobal),
-    version: &Version<'_, A, N>,
+    version: &Version<A, N>,
     plain: &PlainLedger<Global>,
     question: &Command<B>,
 ) -> usize {
@@ -123,7 +123,7 @@ pub fn assert_answer<A: Allocator, N: Naming, B: Allocator>(
 /// A version answers each of these commands as the plain ledger does. Tells how many rows the answers have.
 pub fn assert_answers<A: Allocator, N: Naming, B: Allocator>(
     rt: &(impl Abort + AllocGlobal),
-    version: &Version<'_, A, N>,
+    version: &Version<A, N>,
     plain: &PlainLedger<Global>,
     questions: &[Command<B>],
 ) -> usize {

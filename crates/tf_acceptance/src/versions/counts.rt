@@ -10,21 +10,22 @@ use std::alloc::{Allocator, Global};
 use std::process::Abort;
 use std::sync::Wait;
 use std::test::Fail;
-use tf_manifest::{Naming, Row};
+use tf_manifest::Row;
 use tf_records::{Refusal, Transfer};
+use tf_registry::Naming;
 use tf_rows::SealRows;
 use tf_script::Command;
 
 /// No row of a forest has more than 64 tables, and what was counted is within its bounds.
-fn assert_bounds<'r, F: SealRows<A> + Drop, A: Allocator + Copy, N: Naming>(
+fn assert_bounds<F: SealRows<A> + Drop, A: Allocator + Copy, N: Naming>(
     rt: &impl Abort,
-    forest: &Sealing<'r, F, A, N>,
+    forest: &Sealing<F, A, N>,
 ) {
     let manifest = forest.rows().published.manifest();
     let mut references: u64 = 0;
     for row in Row::ALL {
         let count = manifest.references(row);
-        assert!(rt; count <= 64, "{count} tables in a row");
+        assert!(rt; count <= 64);
         references = references.wrapping_add(u64::from(count));
     }
     let counts = forest.counts();
@@ -46,9 +47,9 @@ fn one_transfer(alloc: Global) -> Result<Command<Global>, Refusal> {
 }
 
 /// Stores a transfer with this id in a batch of its own, and publishes it.
-fn publish_one<'r, F: SealRows<A> + Drop, A: Allocator + Copy, N: Naming>(
+fn publish_one<F: SealRows<A> + Drop, A: Allocator + Copy, N: Naming>(
     rt: &(impl Abort + AllocGlobal + Wait),
-    forest: &mut Sealing<'r, F, A, N>,
+    forest: &mut Sealing<F, A, N>,
     dice: &mut Dice,
     id: u32,
 ) -> Result<(), Fail>
@@ -63,10 +64,10 @@ fn publish_one<'r, F: SealRows<A> + Drop, A: Allocator + Copy, N: Naming>(
 }
 
 /// Merges all rows after each tenth batch. Tells how many merges there were.
-fn merge_after<'r, F: SealRows<A> + Drop, A: Allocator + Copy, N: Naming>(
+fn merge_after<F: SealRows<A> + Drop, A: Allocator + Copy, N: Naming>(
     rt: &(impl Abort + Wait),
     alloc: A,
-    forest: &mut Sealing<'r, F, A, N>,
+    forest: &mut Sealing<F, A, N>,
     id: u32,
 ) -> Result<u32, Fail>
     requires { IsAtRest forest.old.journal forest.old.clock forest.old.kept }
@@ -81,10 +82,10 @@ fn merge_after<'r, F: SealRows<A> + Drop, A: Allocator + Copy, N: Naming>(
 }
 
 /// A thousand batches of one transfer, each published, with all rows merged after each tenth.
-pub fn assert_bounds_kept<'r, F: SealRows<A> + Drop, A: Allocator + Copy, N: Naming>(
+pub fn assert_bounds_kept<F: SealRows<A> + Drop, A: Allocator + Copy, N: Naming>(
     rt: &(impl Abort + AllocGlobal + Wait),
     alloc: A,
-    forest: &mut Sealing<'r, F, A, N>,
+    forest: &mut Sealing<F, A, N>,
 ) -> Result<(), Fail>
     requires { IsAtRest forest.old.journal forest.old.clock forest.old.kept }
 {
@@ -95,38 +96,90 @@ pub fn assert_bounds_kept<'r, F: SealRows<A> + Drop, A: Allocator + Copy, N: Nam
         publish_one(rt, forest, &mut dice, id)?;
         merges = merges.wrapping_add(merge_after(rt, alloc, forest, id)?);
     }
-    assert!(rt; merges > 10_000, "{merges} merges");
-    assert_eq!(rt; forest.counts().publishes, 1000);
+    assert!(rt; merges > 10_000);
+    assert!(rt; forest.counts().publishes == 1000);
+    Ok(())
+}
+
+/// What a forest counted, and how many tables its transfers are in.
+#[derive(Clone, Copy)]
+struct Figures {
+    pushed: u32,
+    publishes: u64,
+    rows_sealed: u64,
+    rows_held: u64,
+    tables_of_transfers: u32,
+}
+
+impl Figures {
+    fn of<F: SealRows<A> + Drop, A: Allocator + Copy, N: Naming>(
+        forest: &Sealing<F, A, N>,
+    ) -> Figures {
+        let manifest = forest.rows().published.manifest();
+        let counts = forest.counts();
+        Figures {
+            pushed: manifest.pushed(),
+            publishes: counts.publishes,
+            rows_sealed: counts.rows_sealed,
+            rows_held: counts.rows_held,
+            tables_of_transfers: manifest.references(Row::TransferObjects),
+        }
+    }
+
+    /// Nothing was published.
+    fn are_of_nothing(self) -> bool {
+        self.pushed == 0
+            && self.publishes == 0
+            && self.rows_sealed == 0
+            && self.tables_of_transfers == 0
+    }
+
+    /// All 18 tables were published at once, and none was merged.
+    fn are_of_one_publish(self) -> bool {
+        self.pushed == 18
+            && self.publishes == 1
+            && self.rows_held == self.rows_sealed
+            && self.tables_of_transfers == 1
+    }
+}
+
+/// Whether a publish of 18 tables went as it has to under this limit, by its answer and what was counted.
+fn is_kept(limit: u32, answer: Result<(), Refusal>, figures: Figures) -> bool {
+    match answer {
+        Ok(()) => limit >= 18 && figures.are_of_one_publish(),
+        Err(refusal) => {
+            limit < 18 && refusal == Refusal::RegistryFull && figures.are_of_nothing()
+        }
+    }
+}
+
+/// Stores the accounts and a transfer of one with history.
+fn store_one<F: SealRows<A> + Drop, A: Allocator + Copy, N: Naming>(
+    rt: &impl AllocGlobal,
+    forest: &mut Sealing<F, A, N>,
+) -> Result<(), Refusal>
+    requires { IsAtRest forest.old.journal forest.old.clock forest.old.kept }
+    ensures { IsAtRest forest.new.journal forest.new.clock forest.new.kept }
+{
+    let accounts = random::first_accounts(rt.alloc())?;
+    let transfer = one_transfer(rt.alloc())?;
+    let _accounts = run_on_forest(rt.alloc(), forest, &accounts);
+    let _transfer = run_on_forest(rt.alloc(), forest, &transfer);
     Ok(())
 }
 
 /// Accounts and a transfer of one with history, which need 18 tables, are published under a limit of 18. Under 17 the
 /// registry is full, and nothing has changed.
-pub fn assert_limit_holds<'r, F: SealRows<A> + Drop, A: Allocator + Copy, N: Naming>(
+pub fn assert_limit_holds<F: SealRows<A> + Drop, A: Allocator + Copy, N: Naming>(
     rt: &(impl Abort + AllocGlobal + Wait),
-    forest: &mut Sealing<'r, F, A, N>,
+    forest: &mut Sealing<F, A, N>,
     limit: u32,
 ) -> Result<(), Fail>
     requires { IsAtRest forest.old.journal forest.old.clock forest.old.kept }
 {
-    let _accounts = run_on_forest(rt.alloc(), forest, &random::first_accounts(rt.alloc())?);
-    let _transfer = run_on_forest(rt.alloc(), forest, &one_transfer(rt.alloc())?);
+    store_one(rt, forest)?;
     let answer = forest.publish(rt);
-    let counts = forest.counts();
-    let manifest = forest.rows().published.manifest();
-    if limit < 18 {
-        assert!(rt; matches!(answer, Err(Refusal::RegistryFull)));
-        assert_eq!(rt; manifest.pushed(), 0);
-        assert_eq!(rt; counts.publishes, 0);
-        assert_eq!(rt; counts.rows_sealed, 0);
-        assert_eq!(rt; manifest.references(Row::TransferObjects), 0);
-    } else {
-        assert!(rt; answer.is_ok());
-        assert_eq!(rt; manifest.pushed(), 18);
-        assert_eq!(rt; counts.publishes, 1);
-        assert_eq!(rt; counts.rows_held, counts.rows_sealed);
-        assert_eq!(rt; manifest.references(Row::TransferObjects), 1);
-    }
+    assert!(rt; is_kept(limit, answer, Figures::of(forest)));
     assert!(rt; forest.transfer(1).is_some());
     Ok(())
 }

@@ -13,10 +13,10 @@ use std::sync::Wait;
 use std::test::Fail;
 use std::thread::Threads;
 use tf_journal::PlainLedger;
-use tf_manifest::Naming;
 use tf_query::Version;
 use tf_query_all::{Filter, query_all};
 use tf_records::Refusal;
+use tf_registry::Naming;
 use tf_rows::SealRows;
 use tf_script::{Command, Query};
 
@@ -47,7 +47,7 @@ fn queries(
 /// A version answers all these queries at once as one by one, and as the plain ledger does.
 fn assert_all_answered<A, N>(
     rt: &(impl Abort + AllocGlobal + Threads + Sync),
-    version: &Version<'_, A, N>,
+    version: &Version<A, N>,
     plain: &PlainLedger<Global>,
     queries: &[Query],
 ) -> Result<(), Fail>
@@ -57,7 +57,7 @@ where
 {
     let filters: Vec<Filter> = queries.iter().map(filter_of).collect(rt.alloc())?;
     let answers = query_all(rt, rt.alloc(), version, filters.as_slice())?;
-    assert_eq!(rt; answers.len(), queries.len());
+    assert!(rt; answers.len() == queries.len());
     for (query, answer) in queries.iter().zip(answers) {
         let question = Command::<Global>::Query(*query);
         let alone = ask(rt.alloc(), version, &question);
@@ -69,9 +69,10 @@ where
 }
 
 /// A version of a random journal answers 4,096 random filters at once as one by one, and none as well.
-pub fn assert_many_answered<'r, F, A, N>(
+pub fn assert_many_answered<F, A, N>(
     rt: &(impl Abort + AllocGlobal + Wait + Threads + Sync),
-    forest: &mut Sealing<'r, F, A, N>,
+    alloc: A,
+    forest: &mut Sealing<F, A, N>,
 ) -> Result<(), Fail>
 where
     F: SealRows<A> + Drop,
@@ -81,8 +82,8 @@ where
 {
     let mut plain = PlainLedger::new(rt.alloc());
     let commands = random::commands(rt.alloc(), 4096, 60)?;
-    run_published(rt, &mut plain, forest, commands.as_slice())?;
-    let version = publish(rt, forest)?;
+    run_published(rt, alloc, &mut plain, forest, commands.as_slice())?;
+    let version = publish(rt, alloc, forest)?;
     let asked = queries(rt.alloc(), &plain, 4096)?;
     assert_all_answered(rt, &version, &plain, asked.as_slice())?;
     assert_all_answered(rt, &version, &plain, &[])

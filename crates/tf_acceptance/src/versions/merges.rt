@@ -6,15 +6,16 @@ use crate::dice::Dice;
 use std::alloc::{Allocator, Global};
 use std::sync::Wait;
 use std::test::Fail;
-use tf_manifest::{Naming, Row};
+use tf_manifest::Row;
 use tf_records::Refusal;
+use tf_registry::Naming;
 use tf_rows::SealRows;
 
 /// Merges the next run of each of these rows, in their order. Tells how many had one.
-pub fn merge_each<'r, F: SealRows<A> + Drop, A: Allocator + Copy, N: Naming>(
+pub fn merge_each<F: SealRows<A> + Drop, A: Allocator + Copy, N: Naming>(
     rt: &impl Wait,
     alloc: A,
-    forest: &mut Sealing<'r, F, A, N>,
+    forest: &mut Sealing<F, A, N>,
     rows: &[Row],
 ) -> Result<u32, Fail>
     requires { IsAtRest forest.old.journal forest.old.clock forest.old.kept }
@@ -22,7 +23,7 @@ pub fn merge_each<'r, F: SealRows<A> + Drop, A: Allocator + Copy, N: Naming>(
 {
     let mut merges: u32 = 0;
     for row in rows {
-        let Some(job) = forest.pick(*row) else {
+        let Some(job) = forest.pick(*row)? else {
             continue;
         };
         let Ok(()) = forest.install(rt, job.merge(alloc)?) else {
@@ -34,10 +35,10 @@ pub fn merge_each<'r, F: SealRows<A> + Drop, A: Allocator + Copy, N: Naming>(
 }
 
 /// Merges the runs of all rows until none has one. Tells how many there were.
-pub fn merge_all<'r, F: SealRows<A> + Drop, A: Allocator + Copy, N: Naming>(
+pub fn merge_all<F: SealRows<A> + Drop, A: Allocator + Copy, N: Naming>(
     rt: &impl Wait,
     alloc: A,
-    forest: &mut Sealing<'r, F, A, N>,
+    forest: &mut Sealing<F, A, N>,
 ) -> Result<u32, Fail>
     requires { IsAtRest forest.old.journal forest.old.clock forest.old.kept }
     ensures { IsAtRest forest.new.journal forest.new.clock forest.new.kept }

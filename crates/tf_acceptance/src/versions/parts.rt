@@ -10,9 +10,9 @@ use std::process::Abort;
 use std::sync::Wait;
 use std::test::Fail;
 use tf_journal::PlainLedger;
-use tf_manifest::Naming;
 use tf_query::Version;
 use tf_records::{AccountFilter, QueryFilter, Refusal, Transfer};
+use tf_registry::Naming;
 use tf_rows::SealRows;
 use tf_script::{Command, Query};
 
@@ -114,7 +114,7 @@ fn of_all(span: Span, code: u16) -> QueryFilter {
 /// A union, the same with balances, all records and a field alone: as many rows each.
 fn assert_span_answered<A: Allocator, N: Naming>(
     rt: &(impl Abort + AllocGlobal),
-    version: &Version<'_, A, N>,
+    version: &Version<A, N>,
     plain: &PlainLedger<Global>,
     span: Span,
 ) {
@@ -127,14 +127,14 @@ fn assert_span_answered<A: Allocator, N: Naming>(
     let rows = assert_answer(rt, version, plain, &questions[0]);
     assert!(rt; rows > 0 && rows <= span.limit as usize);
     for question in &questions {
-        assert_eq!(rt; assert_answer(rt, version, plain, question), rows);
+        assert!(rt; assert_answer(rt, version, plain, question) == rows);
     }
 }
 
 /// A version answers queries with each limit between two transfers, in both directions, as the plain ledger does.
 fn assert_limits_answered<A: Allocator, N: Naming>(
     rt: &(impl Abort + AllocGlobal),
-    version: &Version<'_, A, N>,
+    version: &Version<A, N>,
     plain: &PlainLedger<Global>,
     low: u64,
     high: u64,
@@ -153,16 +153,17 @@ fn assert_limits_answered<A: Allocator, N: Naming>(
 }
 
 /// A version of 800 transfers in four tables answers queries of about as many rows as a part has as the plain ledger does.
-pub fn assert_parts_answered<'r, F: SealRows<A> + Drop, A: Allocator + Copy, N: Naming>(
+pub fn assert_parts_answered<F: SealRows<A> + Drop, A: Allocator + Copy, N: Naming>(
     rt: &(impl Abort + AllocGlobal + Wait),
-    forest: &mut Sealing<'r, F, A, N>,
+    alloc: A,
+    forest: &mut Sealing<F, A, N>,
 ) -> Result<(), Fail>
     requires { IsAtRest forest.old.journal forest.old.clock forest.old.kept }
 {
     let mut plain = PlainLedger::new(rt.alloc());
     let commands = commands(rt.alloc())?;
-    run_published(rt, &mut plain, forest, commands.as_slice())?;
-    let version = publish(rt, forest)?;
+    run_published(rt, alloc, &mut plain, forest, commands.as_slice())?;
+    let version = publish(rt, alloc, forest)?;
     for (first, last) in BOUNDS {
         let low = moment(&plain, first);
         let high = moment(&plain, last);

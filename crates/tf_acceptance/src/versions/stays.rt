@@ -13,8 +13,8 @@ use std::process::Abort;
 use std::sync::Wait;
 use std::test::Fail;
 use tf_journal::PlainLedger;
-use tf_manifest::Naming;
 use tf_records::{Refusal, Transfer};
+use tf_registry::Naming;
 use tf_rows::SealRows;
 use tf_script::Command;
 
@@ -50,10 +50,10 @@ fn further_batches(alloc: Global, dice: &mut Dice) -> Result<[Command<Global>; 4
 
 /// A version that was taken after the first transfer answers as the plain ledger did then, once four batches more were
 /// published and all rows were merged.
-pub fn assert_version_stays<'r, F: SealRows<A> + Drop, A: Allocator + Copy, N: Naming>(
+pub fn assert_version_stays<F: SealRows<A> + Drop, A: Allocator + Copy, N: Naming>(
     rt: &(impl Abort + AllocGlobal + Wait),
     alloc: A,
-    forest: &mut Sealing<'r, F, A, N>,
+    forest: &mut Sealing<F, A, N>,
 ) -> Result<(), Fail>
     requires { IsAtRest forest.old.journal forest.old.clock forest.old.kept }
 {
@@ -66,10 +66,11 @@ pub fn assert_version_stays<'r, F: SealRows<A> + Drop, A: Allocator + Copy, N: N
     let _accounts = run(rt.alloc(), &mut then, &first[0]);
     let _transfer = run(rt.alloc(), &mut then, &first[1]);
     let mut now = PlainLedger::new(rt.alloc());
-    run_published(rt, &mut now, forest, &first)?;
-    let version = publish(rt, forest)?;
+    run_published(rt, alloc, &mut now, forest, &first)?;
+    let version = publish(rt, alloc, forest)?;
     run_published(
         rt,
+        alloc,
         &mut now,
         forest,
         &further_batches(rt.alloc(), &mut dice)?,
@@ -78,7 +79,7 @@ pub fn assert_version_stays<'r, F: SealRows<A> + Drop, A: Allocator + Copy, N: N
     assert!(rt; merges >= 10);
     let asked = questions(rt.alloc(), &mut dice, &now, 400)?;
     let rows = assert_answers(rt, &version, &then, asked.as_slice());
-    let later = assert_answers(rt, &publish(rt, forest)?, &now, asked.as_slice());
-    assert!(rt; rows > 100 && later > 1000, "{rows} rows and {later}");
+    let later = assert_answers(rt, &publish(rt, alloc, forest)?, &now, asked.as_slice());
+    assert!(rt; rows > 100 && later > 1000);
     Ok(())
 }

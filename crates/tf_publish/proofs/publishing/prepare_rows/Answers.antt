@@ -1,113 +1,64 @@
-use Rattle.std.proofs.Common.{◌≡◌, ◌+◌, ◌-◌, ◌≤◌, sym, ◌∙◌, ap, subst, arith}
-use Rattle.tf_table.specs.declared.key.Key.{Key}
-use Rattle.tf_manifest.specs.declared.row.Row.{Row}
-use Rattle.tf_manifest.specs.View.{content_in}
-use Rattle.tf_rows.specs.Counts.{Counted, IsReady, PushesMore, all_references, counted}
-use Rattle.tf_rows.specs.Parts.{Entries, parts_of, value_of_part}
-use Rattle.tf_publish.specs.Publish.{entries_waiting, tables_needed}
-use Rattle.tf_publish.specs.Partly.{PublishesParts}
-use Rattle.tf_publish.specs.Tables.{Publishes}
-use Rattle.tf_publish.proofs.Bounds.{few_ready, loses_no_more, loses_nothing}
-use Rattle.tf_publish.proofs.PublishRows.{all_few}
+use Rattle.std.proofs.Common.{◌∙◌, sym, arith}
+use Rattle.tf_rows.specs.Parts.{Entries}
+use Rattle.tf_publish.specs.Publish.{tables_needed}
+use Rattle.tf_publish.proofs.Bounds.{nothing_lost}
+use Rattle.tf_publish.proofs.Partly.{nothing_counted}
+use Rattle.tf_publish.proofs.PublishRows.{needless_where_none, none_where_needless}
 use Rattle.tf_publish.proofs.publishing.prepare_rows.Goals as goal
 
-pub count_pushed-requires : goal.count_pushed-requires
-count_pushed-requires g c =
-    let next : Counted = c.push_rows-answer.new.next in
-    let most = c.push_rows-answer.ensures.most in
-    let few = all_few (g.F.MutableRows.entries c.args.rows.now.fresh) c.copy-next.result.tables in
-    let same = ap (λ (t : Counted). t.tables.pushed.count) c.copy-next.ensures in (
-      omega arith,
-      (omega arith, (subst (λ (t : Counted). PushesMore t next) c.copy-next.ensures c.push_rows-answer.ensures.more, omega (arith, most, few, same))),
-    )
-
-pub returns-in-Ok-clause-content : goal.returns-in-Ok-clause-content
-returns-in-Ok-clause-content g c =
+pub returns-then-tables_needed-eq0-clause-none : goal.returns-then-tables_needed-eq0-clause-none
+returns-then-tables_needed-eq0-clause-none g c =
     let fresh : Entries = g.F.MutableRows.entries c.args.rows.now.fresh in
-    let next : Counted = c.push_rows-answer.new.next in
-    subst (λ (p : Counted). (r : Row) (key : Key) → content_in p.tables r key ≡ value_of_part (parts_of fresh c.args.rows.now.published.tables r) key) (sym c.new.ensures)
-    (subst (λ (t : Counted). (r : Row) (key : Key) → content_in next.tables r key ≡ value_of_part (parts_of fresh t.tables r) key) c.copy-next.ensures c.in-Ok.ensures.content)
+    none_where_needless fresh c.manifest.result.now (sym c.tables_needed.ensures ∙ c.if-tables_needed-eq0.true)
 
-pub returns-in-Ok-clause-count : goal.returns-in-Ok-clause-count
-returns-in-Ok-clause-count g c =
-    let fresh : Entries = g.F.MutableRows.entries c.args.rows.now.fresh in
-    let next : Counted = c.push_rows-answer.new.next in
-    ap (λ (p : Counted). p.tables.pushed.count) c.new.ensures
-    ∙ subst (λ (t : Counted). next.tables.pushed.count ≡ t.tables.pushed.count + tables_needed fresh t.tables) c.copy-next.ensures c.in-Ok.ensures.count
+pub returns-then-tables_needed-eq0-clause-loses : goal.returns-then-tables_needed-eq0-clause-loses
+returns-then-tables_needed-eq0-clause-loses g c = nothing_lost c.args.rows.now.published (tables_needed (g.F.MutableRows.entries c.args.rows.now.fresh) c.args.rows.now.published.tables)
 
-pub returns-in-Ok-clause-sealed : goal.returns-in-Ok-clause-sealed
-returns-in-Ok-clause-sealed g c =
-    let fresh : Entries = g.F.MutableRows.entries c.args.rows.now.fresh in
-    let next : Counted = c.push_rows-answer.new.next in
-    ap (λ (p : Counted). p.sealed) c.new.ensures
-    ∙ subst (λ (t : Counted). next.sealed ≡ t.sealed + entries_waiting fresh) c.copy-next.ensures c.in-Ok.ensures.sealed
-
-pub returns-in-Ok-clause-ready : goal.returns-in-Ok-clause-ready
-returns-in-Ok-clause-ready g c =
-    let next : Counted = c.push_rows-answer.new.next in
-    let few = subst (λ (t : Counted). next.tables.pushed.count + all_references next.tables ≤ t.tables.pushed.count + all_references t.tables + 42) c.copy-next.ensures c.in-Ok.ensures.few in
-    let added = subst (λ (t : Counted). all_references next.tables + t.tables.pushed.count ≤ all_references t.tables + next.tables.pushed.count) c.copy-next.ensures c.in-Ok.ensures.added in
-    subst (λ (p : Counted). IsReady c.count_pushed.new.self p) (sym c.new.ensures)
-    (record {
-      pushed = sym c.count_pushed.ensures.pushed;
-      held = sym c.count_pushed.ensures.held;
-      few = few_ready c.args.rows.now.published c.count_pushed.new.self next (next.tables.pushed.count - c.args.rows.now.published.tables.pushed.count) c.count_pushed.ensures.loses c.count_pushed.ensures.pushed c.publishes-publishes.ensures few added;
-    })
-
-pub returns-in-Ok-clause-loses : goal.returns-in-Ok-clause-loses
-returns-in-Ok-clause-loses g c =
-    let fresh : Entries = g.F.MutableRows.entries c.args.rows.now.fresh in
-    let next : Counted = c.push_rows-answer.new.next in
-    let most = subst (λ (t : Counted). next.tables.pushed.count ≤ t.tables.pushed.count + tables_needed fresh t.tables) c.copy-next.ensures c.push_rows-answer.ensures.most in
-    loses_no_more c.args.rows.now.published c.count_pushed.new.self (next.tables.pushed.count - c.args.rows.now.published.tables.pushed.count) (tables_needed fresh c.args.rows.now.published.tables) c.count_pushed.ensures.loses (omega (arith, most))
+pub returns-then-tables_needed-eq0-clause-parts : goal.returns-then-tables_needed-eq0-clause-parts
+returns-then-tables_needed-eq0-clause-parts g c = nothing_counted (g.F.MutableRows.entries c.args.rows.now.fresh) c.args.rows.now.published
 
 pub returns-in-Err-clause-loses : goal.returns-in-Err-clause-loses
-returns-in-Err-clause-loses g c =
-    let fresh : Entries = g.F.MutableRows.entries c.args.rows.now.fresh in
-    let next : Counted = c.push_rows-answer.new.next in
-    let most = subst (λ (t : Counted). next.tables.pushed.count ≤ t.tables.pushed.count + tables_needed fresh t.tables) c.copy-next.ensures c.push_rows-answer.ensures.most in
-    loses_no_more c.args.rows.now.published c.count_pushed.new.self (next.tables.pushed.count - c.args.rows.now.published.tables.pushed.count) (tables_needed fresh c.args.rows.now.published.tables) c.count_pushed.ensures.loses (omega (arith, most))
-
-pub returns-in-Ok-clause-publishes : goal.returns-in-Ok-clause-publishes
-returns-in-Ok-clause-publishes g c =
-    let fresh : Entries = g.F.MutableRows.entries c.args.rows.now.fresh in
-    let next : Counted = c.push_rows-answer.new.next in
-    subst (λ (p : Counted). Publishes fresh (counted c.args.rows.now.published) p) (sym c.new.ensures)
-    (subst (λ (t : Counted). Publishes fresh t next) c.copy-next.ensures c.in-Ok.ensures.publishes)
-
-pub returns-in-Ok-clause-still : goal.returns-in-Ok-clause-still
-returns-in-Ok-clause-still g c = λ none.
-    let old = c.args.rows.now.published in
-    let next : Counted = c.push_rows-answer.new.next in
-    let same : next ≡ counted old = c.push_rows-answer.ensures.still none ∙ c.copy-next.ensures in
-    let count = ap (λ (t : Counted). t.tables.pushed.count) same in
-    loses_nothing old c.count_pushed.new.self (next.tables.pushed.count - old.tables.pushed.count) c.count_pushed.ensures.loses (omega (arith, count))
-
-pub returns-in-Err-clause-still : goal.returns-in-Err-clause-still
-returns-in-Err-clause-still g c = λ none.
-    let old = c.args.rows.now.published in
-    let next : Counted = c.push_rows-answer.new.next in
-    let same : next ≡ counted old = c.push_rows-answer.ensures.still none ∙ c.copy-next.ensures in
-    let count = ap (λ (t : Counted). t.tables.pushed.count) same in
-    loses_nothing old c.count_pushed.new.self (next.tables.pushed.count - old.tables.pushed.count) c.count_pushed.ensures.loses (omega (arith, count))
-
-pub returns-in-Ok-clause-equal : goal.returns-in-Ok-clause-equal
-returns-in-Ok-clause-equal g c = λ none. c.new.ensures ∙ c.push_rows-answer.ensures.still none ∙ c.copy-next.ensures
-
-pub returns-in-Ok-clause-parts : goal.returns-in-Ok-clause-parts
-returns-in-Ok-clause-parts g c =
-    let fresh : Entries = g.F.MutableRows.entries c.args.rows.now.fresh in
-    record {
-      copy = c.push_rows-answer.new.next;
-      parts = subst (λ (t : Counted). PublishesParts fresh t c.push_rows-answer.new.next) c.copy-next.ensures c.push_rows-answer.ensures.parts;
-      is = c.count_pushed.ensures.lost;
-    }
+returns-in-Err-clause-loses g c = nothing_lost c.args.rows.now.published (tables_needed (g.F.MutableRows.entries c.args.rows.now.fresh) c.args.rows.now.published.tables)
 
 pub returns-in-Err-clause-parts : goal.returns-in-Err-clause-parts
-returns-in-Err-clause-parts g c =
+returns-in-Err-clause-parts g c = nothing_counted (g.F.MutableRows.entries c.args.rows.now.fresh) c.args.rows.now.published
+
+pub returns-in-Err-clause-idle : goal.returns-in-Err-clause-idle
+returns-in-Err-clause-idle g c = λ none.
     let fresh : Entries = g.F.MutableRows.entries c.args.rows.now.fresh in
-    record {
-      copy = c.push_rows-answer.new.next;
-      parts = subst (λ (t : Counted). PublishesParts fresh t c.push_rows-answer.new.next) c.copy-next.ensures c.push_rows-answer.ensures.parts;
-      is = c.count_pushed.ensures.lost;
-    }
+    let needless = needless_where_none fresh c.manifest.result.now none in
+    let is = c.tables_needed.ensures in
+    let some = c.if-tables_needed-eq0.false in
+    absurd (omega (arith, needless, is, some))
+
+pub returns-in-Ok-push_onto-clause-idle : goal.returns-in-Ok-push_onto-clause-idle
+returns-in-Ok-push_onto-clause-idle g c = λ none.
+    let fresh : Entries = g.F.MutableRows.entries c.args.rows.now.fresh in
+    let needless = needless_where_none fresh c.manifest.result.now none in
+    let is = c.tables_needed.ensures in
+    let some = c.if-tables_needed-eq0.false in
+    absurd (omega (arith, needless, is, some))
+
+pub returns-in-Ok-push_onto-clause-still : goal.returns-in-Ok-push_onto-clause-still
+returns-in-Ok-push_onto-clause-still g c = λ none.
+    let fresh : Entries = g.F.MutableRows.entries c.args.rows.now.fresh in
+    let needless = needless_where_none fresh c.manifest.result.now none in
+    let is = c.tables_needed.ensures in
+    let some = c.if-tables_needed-eq0.false in
+    absurd (omega (arith, needless, is, some))
+
+pub returns-in-Err-push_onto-clause-idle : goal.returns-in-Err-push_onto-clause-idle
+returns-in-Err-push_onto-clause-idle g c = λ none.
+    let fresh : Entries = g.F.MutableRows.entries c.args.rows.now.fresh in
+    let needless = needless_where_none fresh c.manifest.result.now none in
+    let is = c.tables_needed.ensures in
+    let some = c.if-tables_needed-eq0.false in
+    absurd (omega (arith, needless, is, some))
+
+pub returns-in-Err-push_onto-clause-still : goal.returns-in-Err-push_onto-clause-still
+returns-in-Err-push_onto-clause-still g c = λ none.
+    let fresh : Entries = g.F.MutableRows.entries c.args.rows.now.fresh in
+    let needless = needless_where_none fresh c.manifest.result.now none in
+    let is = c.tables_needed.ensures in
+    let some = c.if-tables_needed-eq0.false in
+    absurd (omega (arith, needless, is, some))

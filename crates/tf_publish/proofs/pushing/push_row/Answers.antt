@@ -6,7 +6,7 @@ use Rattle.std.specs.Prelude.{Option}
 use Rattle.tf_table.specs.declared.key.Key.{Key}
 use Rattle.tf_manifest.specs.declared.row.Row.{Row}
 use Rattle.tf_manifest.specs.declared.value.Value.{Value}
-use Rattle.tf_manifest.specs.Row.{is_nil}
+use Rattle.tf_registry.specs.Row.{is_nil}
 use Rattle.tf_manifest.specs.View.{value_by}
 use Rattle.tf_rows.specs.declared.sealed_row.SealedRow.{SealedRow}
 use Rattle.tf_rows.specs.Parts.{Entries, seen_row}

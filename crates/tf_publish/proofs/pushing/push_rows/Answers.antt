@@ -13,11 +13,9 @@ use Rattle.tf_publish.proofs.pushing.push_rows.Goals as goal
 pub push_row-requires : goal.push_row-requires
 push_row-requires g c =
     let fresh = g.F.MutableRows.entries c.args.fresh.now in
-    let now = c.loop-number.next.tables in (
-      omega arith,
-      subst (λ (f : Entries). now.pushed.count + needed_for (f c.row_at-row.result) (references_in now c.row_at-row.result) ≤ now.pushed.limit) (sym c.loop-number.invariant.fresh)
-          (room_for_row fresh c.args.next.now.tables now c.loop-number.number c.row_at-row.result c.loop-number.invariant.going c.loop-number-test.true c.row_at-row.ensures c.requires),
-    )
+    let now = c.loop-number.next.tables in
+    subst (λ (f : Entries). now.pushed.count + needed_for (f c.row_at-row.result) (references_in now c.row_at-row.result) ≤ now.pushed.limit) (sym c.loop-number.invariant.fresh)
+    (room_for_row fresh c.args.next.now.tables now c.loop-number.number c.row_at-row.result c.loop-number.invariant.going c.loop-number-test.true c.row_at-row.ensures c.requires)
 
 pub returns-in-Err-clause-most : goal.returns-in-Err-clause-most
 returns-in-Err-clause-most g c =

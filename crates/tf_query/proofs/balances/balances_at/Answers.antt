@@ -1,6 +1,6 @@
 use Rattle.std.proofs.Common.{◌≡◌, arith, ◌∙◌, ap, get_or}
 use Rattle.std.specs.Option.{option_copied, option_map}
-use Rattle.tf_manifest.specs.Row.{content_at}
+use Rattle.tf_registry.specs.Row.{content_at}
 use Rattle.tf_manifest.specs.Rows.{key_of}
 use Rattle.tf_query.specs.Reads.{balance_by, balance_in, stored_record, sums_in}
 use Rattle.tf_query.proofs.Found.{more-found}

@@ -1,6 +1,6 @@
 use Rattle.std.proofs.Common.{refl}
 use Rattle.std.specs.Prelude.{is_some}
-use Rattle.tf_manifest.specs.Row.{content_at}
+use Rattle.tf_registry.specs.Row.{content_at}
 use Rattle.tf_manifest.specs.Rows.{key_of}
 use Rattle.tf_query.proofs.Asked.{first-read}
 use Rattle.tf_query.proofs.filters.object_timestamps.Goals as goal

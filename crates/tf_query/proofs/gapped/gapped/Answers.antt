@@ -1,18 +1,17 @@
-use Rattle.std.proofs.Common.{◌≡◌, ◌∙◌, ◌++◌, ◌∷◌, [], List, Option, Some, slice_get, get_or, length, map, take, sym, ap, arith}
+use Rattle.std.proofs.Common.{◌≡◌, ◌∙◌, ◌++◌, ◌∷◌, [], List, Option, Some, slice_get, get_or, length, take, sym, ap, arith}
 use Rattle.std.proofs.lemmas.List.{length-map, length-take-le, take_more, take_all}
 use Rattle.std.proofs.lemmas.Option.{get_or_from_slice_get}
 use Rattle.tf_table.specs.declared.key.Key.{Key}
-use Rattle.tf_manifest.specs.Table.{Shown, Table}
-use Rattle.tf_manifest.specs.Reference.{shown_of}
-use Rattle.tf_manifest.specs.Row.{lists_of}
+use Rattle.tf_registry.specs.Table.{Shown, Table}
+use Rattle.tf_registry.specs.Row.{lists_of}
 use Rattle.tf_query.proofs.Finding.{rows_there}
 use Rattle.tf_query.proofs.gapped.gapped.Goals as goal
 
 pub push_reserved-requires : goal.push_reserved-requires
 push_reserved-requires g c =
-    let shown = map shown_of c.args.references.now in
+    let shown = c.args.references.now in
     let lists = lists_of shown in
-    let long : length lists ≡ length c.args.references.now = length-map shown (λ (t : Shown g.row.V.Denot). t.table.rows) ∙ length-map c.args.references.now shown_of in
+    let long : length lists ≡ length c.args.references.now = length-map shown (λ (t : Shown g.row.V.Denot). t.table.rows) in
     let many = length-take-le c.loop-place.place lists (omega (arith, long)) in
     omega (arith, many, ap length c.loop-place.invariant.items, c.loop-place.invariant.room)
 
@@ -20,11 +19,11 @@ pub loop-place-preserved : goal.loop-place-preserved
 loop-place-preserved g c =
     let rows : List (Key × Option g.row.V.Denot) = c.of.result in
     let i = c.loop-place.place in
-    let shown = map shown_of c.args.references.now in
+    let shown = c.args.references.now in
     let lists = lists_of shown in
-    let long : length lists ≡ length c.args.references.now = length-map shown (λ (t : Shown g.row.V.Denot). t.table.rows) ∙ length-map c.args.references.now shown_of in
+    let long : length lists ≡ length c.args.references.now = length-map shown (λ (t : Shown g.row.V.Denot). t.table.rows) in
     let there : slice_get lists i ≡ Some rows =
-    rows_there shown_of (λ (t : Shown g.row.V.Denot). t.table.rows) c.args.references.now i c.index-references-place.result rows (omega arith) c.index-references-place.is
+    rows_there (λ (t : Shown g.row.V.Denot). t.table.rows) c.args.references.now i c.index-references-place.result rows (omega arith) c.index-references-place.is
     (c.of.ensures ∙ c.table-in-loop-place.ensures ∙ ap (λ (t : Table g.row.V.Denot). t.rows) c.table.ensures) in
     let one : get_or lists i rows ≡ rows = get_or_from_slice_get lists i rows rows there in
     record {
@@ -37,7 +36,7 @@ loop-place-preserved g c =
 
 pub returns-clause-ok : goal.returns-clause-ok
 returns-clause-ok g c =
-    let shown = map shown_of c.args.references.now in
+    let shown = c.args.references.now in
     let lists = lists_of shown in
-    let long : length lists ≡ length c.args.references.now = length-map shown (λ (t : Shown g.row.V.Denot). t.table.rows) ∙ length-map c.args.references.now shown_of in
+    let long : length lists ≡ length c.args.references.now = length-map shown (λ (t : Shown g.row.V.Denot). t.table.rows) in
     c.loop-place.invariant.items ∙ take_all c.loop-place.place lists (omega (arith, long))

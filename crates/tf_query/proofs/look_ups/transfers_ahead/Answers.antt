@@ -1,4 +1,4 @@
-use Rattle.std.proofs.Common.{◌≡◌, ◌∙◌, ℕ, List, Option, None, Some, refl, ap, arith, length, map, take, get_or}
+use Rattle.std.proofs.Common.{◌≡◌, ◌∙◌, ℕ, List, Option, None, Some, refl, ap, arith, length, take, get_or}
 use Rattle.std.specs.Option.{option_and_then, option_copied, option_flatten}
 use Rattle.std.proofs.lemmas.List.{get_or-map, length-map, length-set}
 use Rattle.tf_records.specs.declared.transfer.Transfer.{Transfer}
@@ -6,8 +6,7 @@ use Rattle.tf_table.specs.declared.key.Key.{Key}
 use Rattle.tf_table.specs.Content.{entry_of}
 use Rattle.tf_manifest.specs.declared.kind.Kind.TheVariants as kind
 use Rattle.tf_manifest.specs.declared.kinds.Stored.{Stored}
-use Rattle.tf_manifest.specs.Reference.{shown_of}
-use Rattle.tf_manifest.specs.Row.{content_at, lists_of}
+use Rattle.tf_registry.specs.Row.{content_at, lists_of}
 use Rattle.tf_manifest.specs.Rows.{key_of}
 use Rattle.tf_manifest.specs.View.{View, tables_by}
 use Rattle.tf_query.specs.Reads.{stored_record, transfer_stamp_in, transfer_in}
@@ -22,7 +21,7 @@ stored_at lists (Some t) = refl
 pub loop-place-preserved : goal.loop-place-preserved
 loop-place-preserved g c =
     let ids = c.args.ids.now in
-    let lists = lists_of (map shown_of c.references.result.now) in
+    let lists = lists_of c.references.result.now in
     let part = take (length ids) c.transfer_stamps-stamps.result in
     let stamp : get_or part c.loop-place.place None ≡ transfer_stamp_in c.args.manifest.now (get_or ids c.loop-place.place 0) = ap (λ ss. get_or ss c.loop-place.place None) c.transfer_stamps-stamps.ensures.found ∙ get_or-map (transfer_stamp_in c.args.manifest.now) ids c.loop-place.place 0 None (omega arith) in
     let found = given-ahead option_copied (option_and_then (λ t. entry_of (key_of 0 t) lists)) c.entries_at_stamps-entries.result part c.loop-place.place None None (omega (arith, ap length c.transfer_stamps-stamps.ensures.found, length-map ids (transfer_stamp_in c.args.manifest.now))) c.entries_at_stamps-entries.ensures in

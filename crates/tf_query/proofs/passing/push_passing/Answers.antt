@@ -1,6 +1,6 @@
 use Rattle.std.proofs.Common.{◌∙◌, ap, arith, get_or}
 use Rattle.std.specs.Option.{option_and_then}
-use Rattle.tf_manifest.specs.Row.{content_at}
+use Rattle.tf_registry.specs.Row.{content_at}
 use Rattle.tf_manifest.specs.Rows.{key_of}
 use Rattle.tf_query.specs.Reads.{stored_record}
 use Rattle.tf_query.specs.Residual.{passed, passing_in}

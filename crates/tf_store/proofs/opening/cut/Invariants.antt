@@ -1,4 +1,4 @@
-use Rattle.std.proofs.Common.{◌≡◌, ◌+◌, ◌-◌, ◌≤◌, vec_len}
+use Rattle.std.proofs.Common.{◌≡◌, ◌+◌, vec_len}
 use Rattle.std.specs.List.{All}
 use Rattle.tf_store.proofs.opening.cut.Given as goal
 

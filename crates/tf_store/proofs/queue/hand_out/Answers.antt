@@ -1,9 +1,8 @@
-use Rattle.std.proofs.Common.{◌≡◌, ◌∷◌, [], ◌++◌, ◌+◌, List, length, length-append, refl, sym, ap, subst, ◌∙◌, append_assoc, append-nil, arith}
+use Rattle.std.proofs.Common.{◌≡◌, ◌∷◌, [], List, length, length-append, refl, sym, ap, subst, ◌∙◌, append_assoc, append-nil, arith}
 use Rattle.std.specs.Prelude.{map}
-use Rattle.std.specs.List.{All}
-use Rattle.std.specs.Vec.Iter.{into_iter_items, into_iter_len}
+use Rattle.std.specs.Vec.Iter.{into_iter_items}
 use Rattle.std.proofs.lemmas.List.Elements.{All-head, All-same, All-tail}
-use Rattle.tf_store.specs.Receipt.{Waiting, Waits, receipt_of}
+use Rattle.tf_store.specs.Receipt.{Waits, receipt_of}
 use Rattle.tf_store.proofs.Counting.{map-append}
 use Rattle.tf_store.proofs.queue.hand_out.Goals as goal
 

@@ -1,5 +1,4 @@
-use Rattle.std.proofs.Common.{◌≡◌, ◌+◌, ◌≤◌, ◌∙◌, ap, arith, length, sym, Ok}
-use Rattle.tf_store.specs.Book.{book_of}
+use Rattle.std.proofs.Common.{arith, Ok}
 use Rattle.tf_store.specs.Events.{batch_of}
 use Rattle.tf_store.proofs.Counting.{book_and_failed}
 use Rattle.tf_store.proofs.Runs.{begins, counts, fits}

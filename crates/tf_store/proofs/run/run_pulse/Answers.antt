@@ -1,4 +1,4 @@
-use Rattle.std.proofs.Common.{◌≡◌, ◌+◌, ◌≤◌, ◌∙◌, ap, arith, length, sym}
+use Rattle.std.proofs.Common.{ap, arith}
 use Rattle.tf_journal.specs.Due.{pulse_step}
 use Rattle.tf_store.specs.Book.{book_of}
 use Rattle.tf_store.proofs.Counting.{book_and_failed, pulse_counts}

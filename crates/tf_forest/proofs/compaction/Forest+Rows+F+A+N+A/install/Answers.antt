@@ -1,6 +1,6 @@
 use Rattle.std.proofs.Common.{◌≡◌, ◌+◌, ◌∙◌, OnOk, sym, ap, subst, length}
 use Rattle.std.specs.Prelude.{IfErr}
-use Rattle.tf_manifest.specs.Install.{OnStale}
+use Rattle.tf_registry.specs.Install.{OnStale}
 use Rattle.tf_manifest.specs.Jobs.{StandsIn, output_of}
 use Rattle.tf_manifest.specs.View.{View as Tables, content_in}
 use Rattle.tf_forest.specs.Forest.{View}

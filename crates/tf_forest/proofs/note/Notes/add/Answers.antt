@@ -1,4 +1,4 @@
-use Rattle.std.proofs.Common.{◌≡◌, ◌-◌, ◌∷◌, [], ◌++◌, List, length, ap, ◌∙◌, arith}
+use Rattle.std.proofs.Common.{◌-◌, ◌∷◌, [], ◌++◌, List, length, ap, ◌∙◌, arith}
 use Rattle.std.proofs.lemmas.List.{length-append}
 use Rattle.tf_rows.specs.declared.change.Step.{Step}
 use Rattle.tf_forest.specs.declared.note.Note.{Note}

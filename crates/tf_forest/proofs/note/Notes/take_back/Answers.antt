@@ -1,8 +1,7 @@
-use Rattle.std.proofs.Common.{◌≡◌, ◌-◌, ℕ, List, length, take, drop, sym, ap, subst, ◌∙◌, arith}
+use Rattle.std.proofs.Common.{◌-◌, ℕ, List, length, take, drop, sym, ap, subst, ◌∙◌, arith}
 use Rattle.tf_rows.specs.declared.change.Step.{Step}
 use Rattle.tf_rows.specs.Changes.{all_stepped}
 use Rattle.tf_rows.specs.Resident.{AreAmong, accounts_before}
-use Rattle.tf_forest.specs.declared.note.Note.{Note}
 use Rattle.tf_forest.specs.Forest.{Noted}
 use Rattle.tf_forest.specs.Notes.{noted}
 use Rattle.tf_forest.proofs.Noting.{few_last, noted_split, rest_count, same_last, same_rest}

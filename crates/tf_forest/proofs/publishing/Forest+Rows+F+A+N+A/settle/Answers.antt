@@ -1,4 +1,4 @@
-use Rattle.std.proofs.Common.{◌≡◌, ◌∙◌, ℕ, List, Option, length, sym, ap, subst, arith}
+use Rattle.std.proofs.Common.{◌≡◌, ◌∙◌, ℕ, List, Option, length, sym, ap, subst}
 use Rattle.tf_table.specs.declared.key.Key.{Key}
 use Rattle.tf_manifest.specs.declared.value.Value.{Value}
 use Rattle.tf_journal.specs.declared.entry.Entry.{Entry}
@@ -17,7 +17,7 @@ use Rattle.tf_forest.proofs.Refused.{logs_alone, values_alone}
 use Rattle.tf_forest.proofs.publishing.Forest+Rows+F+A+N+A.settle.Goals as goal
 
 pub settle-requires : goal.settle-requires
-settle-requires g c = (omega arith, (omega arith, subst (λ (v : View). IsReady v.sealed c.args.prepared.now) (sym c.self.view_is) c.requires.ready))
+settle-requires g c = subst (λ (v : View). IsReady v.sealed c.args.prepared) (sym c.self.view_is) c.requires.ready
 
 pub invariant_of-self : goal.invariant_of-self
 invariant_of-self g c =
@@ -53,4 +53,4 @@ returns g c =
     ∙ ap (λ (n : ℕ). seen was new nothing_fresh n (entries_waiting after)) (none_needed after new.tables c.clear.ensures)
     ∙ ap (λ (n : ℕ). seen was new nothing_fresh 0 n) (none_waits after c.clear.ensures)
     ∙ ap (λ (s : Sealed). seen was s nothing_fresh 0 0) c.settle.ensures
-    ∙ ap (λ (v : View). record v { sealed = settled c.args.prepared.now v.sealed; fresh = nothing_fresh; needed = 0; waiting = 0 }) c.self.view_is
+    ∙ ap (λ (v : View). record v { sealed = settled c.args.prepared v.sealed; fresh = nothing_fresh; needed = 0; waiting = 0 }) c.self.view_is

@@ -1,29 +1,31 @@
-use Rattle.std.proofs.Common.{◌≡◌, ◌<◌, ◌∙◌, ap, sym, subst, length, List, IfErr, [], slice_set, arith}
+use Rattle.std.proofs.Common.{◌≡◌, ◌<◌, ◌∙◌, ap, sym, subst, length, List, IfErr, [], slice_set}
 use Rattle.std.specs.Prelude.{slice_index_or}
 use Rattle.std.specs.List.{refill}
 use Rattle.std.proofs.lemmas.List.{get_or_default}
 use Rattle.tf_btree.proofs.Children.{on_ok}
-use Rattle.tf_manifest.specs.Install.{OnFull, OnStale, IfNoMemory}
-use Rattle.tf_manifest.specs.Run.{Stands, Installs}
-use Rattle.tf_manifest.specs.Table.{Shown}
+use Rattle.tf_registry.specs.Install.{OnFull, OnStale, IfNoMemory}
+use Rattle.tf_registry.specs.Run.{Stands, Installs}
+use Rattle.tf_registry.specs.Table.{Shown}
 use Rattle.tf_manifest.proofs.Maps.{refill_whole, length-slice_set, set_back, on_err}
 use Rattle.tf_manifest.proofs.kind_rows.KindRows.install.Given as given
 use Rattle.tf_manifest.proofs.kind_rows.KindRows.install.Goals as goal
 
-same : (g : given.Over) (c : goal.After-self-1 g) → slice_index_or c.as_mut_slice.result.now c.args.at c.index-as_mut_slice-at.result ≡ slice_index_or c.args.self.now c.args.at []
-same g c =
-    let items = c.as_mut_slice.ensures.value in
-    let within : c.args.at < length c.as_mut_slice.result.now = omega (arith, c.requires, ap length items, c.self.invariant.1) in
-    get_or_default c.as_mut_slice.result.now c.args.at c.index-as_mut_slice-at.result [] within
-    ∙ ap (λ (rows : List (List (Shown g.row.V.Denot))). slice_index_or rows c.args.at []) (items ∙ c.self.view_is)
+module _ (g : given.Over) (c : goal.After-self-1 g) where
+  rows : c.as_mut_slice.result.now ≡ c.args.self.now
+  rows = c.as_mut_slice.ensures.value ∙ c.self.view_is
 
--- the row that was changed, in its place
-written : (g : given.Over) (c : goal.After-self-1 g) → refill (length c.self.inside.list.items) c.self.inside.list.items (slice_set c.as_mut_slice.result.now c.args.at c.install.new.self) ≡ slice_set c.args.self.now c.args.at c.install.new.self
-written g c =
-    let items = c.as_mut_slice.ensures.value in
-    refill_whole (length c.self.inside.list.items) c.self.inside.list.items (slice_set c.as_mut_slice.result.now c.args.at c.install.new.self)
-    (ap length (sym items) ∙ sym (length-slice_set c.as_mut_slice.result.now c.args.at c.install.new.self))
-    ∙ ap (λ (rows : List (List (Shown g.row.V.Denot))). slice_set rows c.args.at c.install.new.self) (items ∙ c.self.view_is)
+  same : slice_index_or c.as_mut_slice.result.now c.args.at c.index-as_mut_slice-at.result ≡ slice_index_or c.args.self.now c.args.at []
+  same =
+      let within : c.args.at < length c.as_mut_slice.result.now = subst (λ (rs : List (List (Shown g.row.V.Denot))). c.args.at < length rs) (sym rows) c.requires in
+      get_or_default c.as_mut_slice.result.now c.args.at c.index-as_mut_slice-at.result [] within
+      ∙ ap (λ (rs : List (List (Shown g.row.V.Denot))). slice_index_or rs c.args.at []) rows
+
+  -- the row that was changed, in its place
+  written : refill c.self.inside.list.len c.self.inside.list.items (slice_set c.as_mut_slice.result.now c.args.at c.install.new.self) ≡ slice_set c.args.self.now c.args.at c.install.new.self
+  written =
+      refill_whole c.self.inside.list.len c.self.inside.list.items (slice_set c.as_mut_slice.result.now c.args.at c.install.new.self)
+      (sym c.as_mut_slice.ensures.len ∙ sym (length-slice_set c.as_mut_slice.result.now c.args.at c.install.new.self))
+      ∙ ap (λ (rs : List (List (Shown g.row.V.Denot))). slice_set rs c.args.at c.install.new.self) rows
 
 pub returns-clause-installs : goal.returns-clause-installs
 returns-clause-installs g c =

@@ -1,7 +1,8 @@
-use Rattle.std.proofs.Common.{◌≡◌, ◌∙◌, ap, refl, sym}
+use Rattle.std.proofs.Common.{◌≡◌, ◌<◌, ◌≤◌, ◌∙◌, length, ap, refl, sym, arith}
 use Rattle.tf_manifest.specs.declared.jobs.Merged.{Merged}
 use Rattle.tf_manifest.specs.declared.jobs.Merged.TheVariants as merged
 use Rattle.tf_manifest.proofs.Answered.{answers, whole}
+use Rattle.tf_manifest.proofs.Kept.{answered, counted, lighter}
 use Rattle.tf_manifest.proofs.manifest.Manifest.put.Goals as goal
 use Rattle.tf_manifest.proofs.manifest.Manifest.put.Goals.{in-Ok, in-Err, in-Ok-parted, in-Err-parted, in-Ok-parted-2, in-Err-parted-2, in-Ok-parted-3, in-Err-parted-3, in-Ok-parted-4, in-Err-parted-4, in-Ok-parted-5, in-Err-parted-5, in-Ok-parted-6, in-Err-parted-6, in-Ok-parted-7, in-Err-parted-7}
 
@@ -92,3 +93,35 @@ returns-after-parted-8 g c =
     answers {A = g.row.A.Denot} {N = g.row.N.Denot} _ c.args.self.now (merged.Status c.in-Status.out) c.args.merged (λ back. merged.Status back) 0 c.install-in-Status.result c.parted-in-Status.result c.match-parted-8.result c.install-in-Status.new.self c.install-in-Status.new.pushes c.self.view_is c.in-Status.is refl
     record { installs = c.install-in-Status.ensures.installs; pushed = c.install-in-Status.ensures.pushed; room = c.install-in-Status.ensures.room; err = c.install-in-Status.ensures.err; stale = c.install-in-Status.ensures.stale; full = c.install-in-Status.ensures.full; no_memory = c.install-in-Status.ensures.no_memory; back = c.install-in-Status.ensures.back }
     c.parted-in-Status.ensures is refl
+
+pub invariant_of-self-in-Unit : goal.invariant_of-self-in-Unit
+invariant_of-self-in-Unit g c =
+    let light = c.self.invariant.0 in
+    let rows = c.self.invariant.1 in
+    let below = c.index-in-Unit.ensures.below in
+    let installs = c.install-in-Unit.ensures in
+    let was = c.self.inside.pushes in
+    let now = c.install-in-Unit.new.pushes in
+    let within : c.index-in-Unit.result < length c.self.inside.units = omega (arith, below, rows.units) in
+    let more : was.count ≤ now.count = counted was now c.install-in-Unit.result _ installs.pushed installs.err in (
+      record {
+        stamps = lighter was.count now.count c.self.inside.stamps more light.stamps;
+        accounts = lighter was.count now.count c.self.inside.accounts more light.accounts;
+        transfers = lighter was.count now.count c.self.inside.transfers more light.transfers;
+        ids = lighter was.count now.count c.self.inside.ids more light.ids;
+        units = answered was now c.self.inside.units c.index-in-Unit.result c.in-Unit.out c.install-in-Unit.result c.install-in-Unit.new.self within installs.installs installs.pushed installs.err light.units;
+        states = lighter was.count now.count c.self.inside.states more light.states;
+        sums = lighter was.count now.count c.self.inside.sums more light.sums;
+        statuses = lighter was.count now.count c.self.inside.statuses more light.statuses;
+      },
+      record {
+        stamps = rows.stamps;
+        accounts = rows.accounts;
+        transfers = rows.transfers;
+        ids = rows.ids;
+        units = installs.count ∙ rows.units;
+        states = rows.states;
+        sums = rows.sums;
+        statuses = rows.statuses;
+      },
+    )

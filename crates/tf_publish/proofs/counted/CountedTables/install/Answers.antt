@@ -1,5 +1,5 @@
 use Rattle.std.proofs.Common.{◌<◌, ◌^◌, ◌∙◌, ap, subst, arith}
-use Rattle.tf_manifest.specs.Install.{OnStale}
+use Rattle.tf_registry.specs.Install.{OnStale}
 use Rattle.tf_manifest.specs.Jobs.{StandsIn}
 use Rattle.tf_manifest.specs.View.{View as Tables, content_in}
 use Rattle.tf_rows.specs.Counts.{Counted, all_references}

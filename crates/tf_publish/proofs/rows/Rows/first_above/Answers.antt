@@ -7,7 +7,7 @@ use Rattle.tf_table.specs.First.{IsFirstAbove}
 use Rattle.tf_table.specs.Key.{key_cmp}
 use Rattle.tf_table.proofs.First.{first_mapped, first_of_two}
 use Rattle.tf_manifest.specs.Kinds.{kind_of}
-use Rattle.tf_manifest.specs.Row.{lists_of}
+use Rattle.tf_registry.specs.Row.{lists_of}
 use Rattle.tf_manifest.specs.View.{View, tables_by, value_by}
 use Rattle.tf_rows.specs.Parts.{sealed_in}
 use Rattle.tf_rows.proofs.Parts.{entry_of-seen}

@@ -2,7 +2,7 @@ use Rattle.std.proofs.Common.{◌≡◌, ◌∷◌, Option, Some, None, IsSome, 
 use Rattle.std.specs.Option.{is_some}
 use Rattle.std.proofs.lemmas.Bool.{false≢true}
 use Rattle.tf_manifest.specs.declared.value.Value.{Value}
-use Rattle.tf_manifest.proofs.Firsts.{starts, comes_further, comes_to_end, comes_to_value, keys_above-fewer}
+use Rattle.tf_publish.proofs.Walks.{starts, comes_further, comes_to_end, comes_to_value, keys_above-fewer}
 use Rattle.tf_rows.specs.Parts.{sealed_in}
 use Rattle.tf_publish.proofs.rows.RowsRowSet.first_from.Goals as goal
 

@@ -1,5 +1,5 @@
 use Rattle.std.proofs.Common.{◌∷◌}
-use Rattle.tf_manifest.proofs.Firsts.{HasComeTo, keys_above}
+use Rattle.tf_publish.proofs.Walks.{HasComeTo, keys_above}
 use Rattle.tf_rows.specs.Parts.{sealed_in}
 use Rattle.tf_publish.proofs.rows.RowsRowSet.first_from.Given as goal
 

@@ -1,8 +1,7 @@
-use Rattle.std.proofs.Common.{◌≡◌, ◌-◌, List, length, Some, map, refl, slice_get, sym, ◌∙◌, ap, arith}
+use Rattle.std.proofs.Common.{◌≡◌, ◌-◌, List, length, Some, refl, slice_get, sym, ◌∙◌, ap, arith}
 use Rattle.std.specs.Option.{option_copied}
-use Rattle.tf_manifest.specs.Table.{Shown}
-use Rattle.tf_manifest.specs.Reference.{shown_of}
-use Rattle.tf_manifest.specs.Row.{lists_of}
+use Rattle.tf_registry.specs.Table.{Shown}
+use Rattle.tf_registry.specs.Row.{lists_of}
 use Rattle.tf_manifest.specs.Rows.{key_of}
 use Rattle.tf_table.specs.Content.{entry_of}
 use Rattle.std.proofs.lemmas.Option.{slice_get_read}
@@ -17,5 +16,5 @@ returns g c =
     slice_get_read f.entries.now (length f.entries.now) (c.args.timestamp - f.from) c.in_ok-entry.entry.now refl found.3.0 found.1
     ∙ ap Some (sym c.as_ref.ensures.value) in
     ap (λ (tables : List (Shown g.row.V.Denot)). entry_of (key_of 0 c.args.timestamp) (lists_of tables)) (sym c.self.view_is)
-    ∙ entry_in_its_place c.args.timestamp f.place f.from f.part f.entries.now (option_copied c.as_ref.result) (lists_of (map shown_of f.references.now))
+    ∙ entry_in_its_place c.args.timestamp f.place f.from f.part f.entries.now (option_copied c.as_ref.result) (lists_of f.references.now)
     c.self.invariant.1 c.self.invariant.0 (c.has.ensures c.if-not-has.false) (omega arith) there

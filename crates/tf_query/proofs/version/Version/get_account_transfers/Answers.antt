@@ -1,9 +1,11 @@
-use Rattle.std.proofs.Common.{◌≡◌, List, IfOk, subst}
+use Rattle.std.proofs.Common.{◌≡◌, List, IfOk}
+use Rattle.std.specs.Arc.{arc_value}
 use Rattle.tf_journal.specs.declared.entry.Entry.{Entry}
 use Rattle.tf_journal.specs.Answer.{account_transfers_of}
+use Rattle.tf_query.proofs.Versions.{of-version}
 use Rattle.tf_query.proofs.version.Version.get_account_transfers.Goals as goal
 
 pub returns-clause-ok : goal.returns-clause-ok
 returns-clause-ok g c =
-    subst (λ (journal : List Entry). IfOk c.account_transfers.result (λ rows. rows.items ≡ account_transfers_of journal c.args.filter.now)) c.self.view_is
-    (c.account_transfers.ensures.ok _ c.self.invariant.lawful.sound c.self.invariant.shows)
+    of-version (λ (journal : List Entry). IfOk c.account_transfers.result (λ rows. rows.items ≡ account_transfers_of journal c.args.filter.now))
+    c.deref.result.now (arc_value c.self.inside.manifest) _ c.deref.ensures c.self.view_is c.self.invariant c.account_transfers.ensures.ok

@@ -1,9 +1,11 @@
-use Rattle.std.proofs.Common.{◌≡◌, List, IfOk, subst}
+use Rattle.std.proofs.Common.{◌≡◌, List, IfOk}
+use Rattle.std.specs.Arc.{arc_value}
 use Rattle.tf_journal.specs.declared.entry.Entry.{Entry}
 use Rattle.tf_journal.specs.Answer.{looked_up_transfers}
+use Rattle.tf_query.proofs.Versions.{of-version}
 use Rattle.tf_query.proofs.version.Version.lookup_transfers.Goals as goal
 
 pub returns-clause-ok : goal.returns-clause-ok
 returns-clause-ok g c =
-    subst (λ (journal : List Entry). IfOk c.transfers_with_ids.result (λ rows. rows.items ≡ looked_up_transfers journal c.args.ids.now)) c.self.view_is
-    (c.transfers_with_ids.ensures.ok _ c.self.invariant.lawful.sound c.self.invariant.shows)
+    of-version (λ (journal : List Entry). IfOk c.transfers_with_ids.result (λ rows. rows.items ≡ looked_up_transfers journal c.args.ids.now))
+    c.deref.result.now (arc_value c.self.inside.manifest) _ c.deref.ensures c.self.view_is c.self.invariant c.transfers_with_ids.ensures.ok

@@ -1,8 +1,7 @@
-use Rattle.std.proofs.Common.{◌≡◌, ℕ, List, Option, IfSome, Some, None, map, slice_get, sym, subst, take, ◌∙◌, ap, arith}
+use Rattle.std.proofs.Common.{◌≡◌, ℕ, List, Option, IfSome, Some, None, slice_get, sym, subst, take, ◌∙◌, ap, arith}
 use Rattle.tf_table.specs.declared.key.Key.{Key}
-use Rattle.tf_manifest.specs.Table.{Shown, Table}
-use Rattle.tf_manifest.specs.Reference.{shown_of}
-use Rattle.tf_manifest.specs.Row.{lists_of}
+use Rattle.tf_registry.specs.Table.{Shown, Table}
+use Rattle.tf_registry.specs.Row.{lists_of}
 use Rattle.tf_query.specs.declared.finder.Part.{Part}
 use Rattle.tf_query.specs.declared.walk.Coming.{Coming}
 use Rattle.tf_query.specs.Finder.{AreSilent}
@@ -21,8 +20,8 @@ invariant_of-self g c =
     let references = c.self.inside.references.now in
     let place = c.in_ok-place.place in
     let table = c.table-table.result.now in
-    let lists = lists_of (map shown_of references) in
+    let lists = lists_of references in
     let there : slice_get lists place ≡ Some table =
-    rows_there shown_of (λ (t : Shown g.row.V.Denot). t.table.rows) references place c.index-self-place.result table (omega arith) c.index-self-place.is
-    (c.table-table.ensures ∙ ap (λ (t : Table g.row.V.Denot). t.rows) c.table.ensures ∙ ap (λ r. (shown_of r).table.rows) (sym c.index-self-place.is)) in
+    rows_there (λ (t : Shown g.row.V.Denot). t.table.rows) references place c.index-self-place.result table (omega arith) c.index-self-place.is
+    (c.table-table.ensures ∙ ap (λ (t : Table g.row.V.Denot). t.rows) c.table.ensures ∙ ap (λ r. r.table.rows) (sym c.index-self-place.is)) in
     coming_if lists place c.in_ok-place.part table c.in_ok-place.ensures.silent there c.behind-coming.result c.behind-coming.ensures

@@ -1,13 +1,12 @@
-use Rattle.std.proofs.Common.{◌≡◌, ℕ, List, [], ◌∷◌, ◌++◌, Option, arith, map, take, ap, sym, subst, ◌∙◌}
+use Rattle.std.proofs.Common.{◌≡◌, ℕ, List, [], ◌∷◌, ◌++◌, Option, arith, take, ap, sym, subst, ◌∙◌}
 use Rattle.std.specs.Prelude.{is_some}
 use Rattle.std.specs.List.{AllByRecursion}
 use Rattle.std.specs.Option.{option_flatten}
 use Rattle.std.proofs.lemmas.List.{take_more, take_all}
 use Rattle.tf_table.specs.Content.{entry_at, entry_of, first_some}
-use Rattle.tf_manifest.specs.Reference.{shown_of}
-use Rattle.tf_manifest.specs.Row.{lists_of}
+use Rattle.tf_registry.specs.Row.{lists_of}
 use Rattle.tf_manifest.specs.Rows.{key_of}
-use Rattle.tf_manifest.specs.Table.{Table, Shown}
+use Rattle.tf_registry.specs.Table.{Table, Shown}
 use Rattle.tf_table.specs.declared.key.Key.{Key}
 use Rattle.tf_scan.specs.Place.{rows_left, lists_left, IsPlace}
 use Rattle.tf_scan.proofs.Prefixes.{in_order-prefix, among-prefix}
@@ -32,10 +31,10 @@ loop-reference-preserved g c =
           ap (λ ps. entry_of key (lists_left c.args.direction v ps)) c.push.ensures.items
           ∙ entry_of-push c.args.direction v t items place
           ∙ ap (λ x. first_some x (entry_at key (rows_left c.args.direction v place))) (c.loop-reference.invariant.same t)
-          ∙ ap (first_some (entry_of key (lists_of (map shown_of (take i refs))))) (c.new.ensures.rows v t ∙ ap (λ (rows : List (Key × Option g.row.V.Denot)). entry_at key rows) table)
-          ∙ sym (shown-push shown_of key (take i refs) ref)
-          ∙ ap (λ q. entry_of key (lists_of (map shown_of (take i refs ++ q ∷ [])))) c.reference-item.is
-          ∙ ap (λ rs. entry_of key (lists_of (map shown_of rs))) (sym (take_more refs i ref (omega arith)));
+          ∙ ap (first_some (entry_of key (lists_of (take i refs)))) (c.new.ensures.rows v t ∙ ap (λ (rows : List (Key × Option g.row.V.Denot)). entry_at key rows) table)
+          ∙ sym (shown-push key (take i refs) ref)
+          ∙ ap (λ q. entry_of key (lists_of (take i refs ++ q ∷ []))) c.reference-item.is
+          ∙ ap (λ rs. entry_of key (lists_of rs)) (sym (take_more refs i ref (omega arith)));
     }
 
 -- the places say of each key what the tables say
@@ -44,7 +43,7 @@ all g c t =
     let key = key_of c.args.value t in
     let refs = c.references-reference-items.result.now in
     c.loop-reference.invariant.same t
-    ∙ ap (λ rs. entry_of key (lists_of (map shown_of rs))) (take_all c.loop-reference.reference-index refs c.loop-reference-test.false)
+    ∙ ap (λ rs. entry_of key (lists_of rs)) (take_all c.loop-reference.reference-index refs c.loop-reference-test.false)
     ∙ ap (λ (ts : List (Shown g.row.V.Denot)). entry_of key (lists_of ts)) c.references-reference-items.ensures.value
 
 pub returns-clause-in_order : goal.returns-clause-in_order

@@ -1,5 +1,5 @@
 use Rattle.std.proofs.Common.{subst, IfErr}
-use Rattle.tf_manifest.specs.Install.{OnStale}
+use Rattle.tf_registry.specs.Install.{OnStale}
 use Rattle.tf_manifest.specs.Jobs.{StandsIn}
 use Rattle.tf_store.specs.Store.{View}
 use Rattle.tf_store.proofs.compaction.Store+Forest+Rows+T+A+S+A+C+A+S.install.Goals as goal

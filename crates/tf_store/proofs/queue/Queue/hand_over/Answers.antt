@@ -1,7 +1,7 @@
-use Rattle.std.proofs.Common.{ap, sym, subst}
+use Rattle.std.proofs.Common.{sym, subst}
 use Rattle.std.specs.List.{All}
 use Rattle.tf_store.specs.Queue.{QueueView}
-use Rattle.tf_store.specs.Receipt.{Waiting, Waits}
+use Rattle.tf_store.specs.Receipt.{Waits}
 use Rattle.tf_store.proofs.queue.Queue.hand_over.Goals as goal
 
 pub hand_out-requires-clause-waits : goal.hand_out-requires-clause-waits

@@ -1,4 +1,4 @@
-use Rattle.std.proofs.Common.{◌≡◌, ◌-◌, ap, subst, arith}
+use Rattle.std.proofs.Common.{◌≡◌, ◌-◌, subst, arith}
 use Rattle.tf_store.specs.Book.{failed_of}
 use Rattle.tf_store.specs.Store.{View}
 use Rattle.tf_store.proofs.Counting.{book_and_failed}
