@@ -15,6 +15,8 @@ mod forest;
 #[cfg(test)]
 mod memory;
 #[cfg(test)]
+mod outcomes;
+#[cfg(test)]
 mod random;
 #[cfg(test)]
 mod scripts;

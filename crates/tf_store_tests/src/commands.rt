@@ -1,10 +1,11 @@
 //! Commands of scripts, run on a store, and what they answer.
 
+use crate::outcomes::{InstallAnswer, NoJob, found, install_answer};
 use crate::tried::Tried;
 use std::alloc::Allocator;
 use std::sync::Wait;
 use std::test::Fail;
-use tf_manifest::Row;
+use tf_manifest::{Merged, Row};
 use tf_records::{Refusal, Reply};
 use tf_script::Command;
 use tf_store::{Share, StoreName};
@@ -56,6 +57,24 @@ pub fn run<F: Tried<A, S>, A: Allocator + Copy, S: StoreName, B: Allocator>(
     }
 }
 
+/// The next run of a row, merged, if there is one.
+pub fn merged_next<F: Tried<A, S>, A: Allocator + Copy, S: StoreName>(
+    alloc: A,
+    store: &F,
+    row: Row,
+) -> Result<Merged<A, S>, NoJob> {
+    let job = match found(store.pick(row)) {
+        Ok(job) => job,
+        Err(why) => return Err(why),
+    };
+    let merged = job.merge(alloc);
+    drop(job);
+    match merged {
+        Ok(merged) => Ok(merged),
+        Err(_) => Err(NoJob::NoMemory),
+    }
+}
+
 /// Merges the next run of a row, and puts it in its place. It tells whether there was one.
 pub fn merge_next<F: Tried<A, S>, A: Allocator + Copy, S: StoreName>(
     rt: &impl Wait,
@@ -63,13 +82,15 @@ pub fn merge_next<F: Tried<A, S>, A: Allocator + Copy, S: StoreName>(
     store: &mut F,
     row: Row,
 ) -> Result<bool, Fail> {
-    let Some(job) = store.pick(row)? else {
-        return Ok(false);
+    let answer = match merged_next(alloc, store, row) {
+        Ok(merged) => install_answer(store.install(rt, merged)),
+        Err(NoJob::NoRun) => return Ok(false),
+        Err(NoJob::NoMemory) => return Err(Fail::new("no memory for a merge")),
     };
-    let Ok(()) = store.install(rt, job.merge(alloc)?) else {
-        return Err(Fail::new("a merged table wasn't installed"));
-    };
-    Ok(true)
+    match answer {
+        InstallAnswer::Done => Ok(true),
+        _ => Err(Fail::new("a merged table wasn't installed")),
+    }
 }
 
 /// Merges the next run of each row that has one. Tells how many there were.

@@ -2,9 +2,11 @@
 ghost use Rattle.std.specs.Prelude.{◌≡◌, length};
 
 use crate::alike::assert_alike;
+use crate::commands::merged_next;
 use crate::counted::Counted;
 use crate::events::{accounts, one_transfer};
 use crate::memory::{Taken, all_but, all_but_holes};
+use crate::outcomes::{InstallAnswer, install_answer};
 use crate::tried::Tried;
 use crate::twin::Twin;
 use linked_list_allocator::LocalHeap;
@@ -51,10 +53,13 @@ fn assert_no_room<F: Tried<A, S>, A: Allocator + Copy, S: StoreName>(
     store: &mut F,
     row: Row,
 ) -> Result<(), Fail> {
-    let job = store.pick(row)?.ok_or("no job")?;
-    let merged = job.merge(alloc)?;
-    assert!(rt; matches!(store.install(rt, merged), Err(Uninstalled::RegistryFull)));
-    Ok(())
+    match merged_next(alloc, store, row) {
+        Ok(merged) => {
+            assert!(rt; install_answer(store.install(rt, merged)) == InstallAnswer::RegistryFull);
+            Ok(())
+        }
+        Err(_) => Err(Fail::new("no job")),
+    }
 }
 
 /// Where publishes pushed as many tables as may be pushed, an install is refused, and changes nothing.
@@ -137,6 +142,22 @@ fn handed_back<M: Drop>(outcome: Result<(), Uninstalled<M>>) -> Result<M, Fail> 
     }
 }
 
+/// Installs a merged table while no registry can grow, which hands it back.
+fn install_in_holes<F: Tried<A, S>, A: Allocator + Copy, S: StoreName>(
+    rt: &(impl AllocGlobal + Wait),
+    heap: &LocalHeap,
+    store: &mut F,
+    merged: Merged<A, S>,
+) -> Result<Merged<A, S>, Fail> {
+    let Ok(taken) = without_growth(rt.alloc(), heap) else {
+        drop(merged);
+        return Err(Fail::new("no memory for what takes memory"));
+    };
+    let outcome = store.install(rt, merged);
+    drop(taken);
+    handed_back(outcome)
+}
+
 /// Installs the next merge of a row while no registry can grow, which hands it back.
 fn install_without_growth<F: Tried<A, S>, A: Allocator + Copy, S: StoreName>(
     rt: &(impl AllocGlobal + Wait),
@@ -145,12 +166,10 @@ fn install_without_growth<F: Tried<A, S>, A: Allocator + Copy, S: StoreName>(
     store: &mut F,
     row: Row,
 ) -> Result<Merged<A, S>, Fail> {
-    let job = store.pick(row)?.ok_or("no job")?;
-    let merged = job.merge(alloc)?;
-    let taken = without_growth(rt.alloc(), heap)?;
-    let outcome = store.install(rt, merged);
-    drop(taken);
-    handed_back(outcome)
+    match merged_next(alloc, store, row) {
+        Ok(merged) => install_in_holes(rt, heap, store, merged),
+        Err(_) => Err(Fail::new("no job")),
+    }
 }
 
 /// A store is as it was counted, and answers as its twin does.
@@ -171,7 +190,7 @@ fn assert_installed<F: Tried<A, S>, A: Allocator + Copy, S: StoreName>(
     merged: Merged<A, S>,
     number: u32,
 ) {
-    assert!(rt; store.install(rt, merged).is_ok());
+    assert!(rt; install_answer(store.install(rt, merged)) == InstallAnswer::Done);
     assert_eq!(rt; store.registered(), number);
 }
 

@@ -33,6 +33,8 @@ mod merges;
 #[cfg(test)]
 mod opening;
 #[cfg(test)]
+mod outcomes;
+#[cfg(test)]
 mod plain;
 #[cfg(test)]
 mod pulses;

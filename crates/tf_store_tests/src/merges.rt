@@ -3,8 +3,10 @@ ghost use Rattle.std.specs.Prelude.{◌≡◌, length};
 
 use crate::alike::assert_alike;
 use crate::answers::assert_answers;
+use crate::commands::merged_next;
 use crate::counted::{Counted, references};
 use crate::events::{accounts, round};
+use crate::outcomes::{InstallAnswer, NoJob, both, install_answer};
 use crate::tried::Tried;
 use crate::twin::Twin;
 use std::alloc::Allocator;
@@ -12,20 +14,7 @@ use std::process::Abort;
 use std::sync::Wait;
 use std::test::Fail;
 use tf_manifest::{Merged, Row};
-use tf_registry::Uninstalled;
 use tf_store::{Share, StoreName};
-
-/// The next run of a row, merged twice, if there is one.
-fn merged_twice<F: Tried<A, S>, A: Allocator + Copy, S: StoreName>(
-    alloc: A,
-    store: &F,
-    row: Row,
-) -> Result<Option<(Merged<A, S>, Merged<A, S>)>, Fail> {
-    let (Some(first), Some(second)) = (store.pick(row)?, store.pick(row)?) else {
-        return Ok(None);
-    };
-    Ok(Some((first.merge(alloc)?, second.merge(alloc)?)))
-}
 
 /// Of two merges of one run the first is installed, and the second is stale, which changes nothing.
 fn install_twice<F: Tried<A, S>, A: Allocator + Copy, S: StoreName>(
@@ -35,11 +24,11 @@ fn install_twice<F: Tried<A, S>, A: Allocator + Copy, S: StoreName>(
     stale: Merged<A, S>,
 ) {
     let before = Counted::of(store);
-    assert!(rt; store.install(rt, merged).is_ok());
+    assert!(rt; install_answer(store.install(rt, merged)) == InstallAnswer::Done);
     let after = Counted::of(store);
     assert_eq!(rt; after.registered, before.registered.wrapping_add(1));
     assert_eq!(rt; after.rows_sealed, before.rows_sealed);
-    assert!(rt; matches!(store.install(rt, stale), Err(Uninstalled::Stale)));
+    assert!(rt; install_answer(store.install(rt, stale)) == InstallAnswer::Stale);
     assert_eq!(rt; Counted::of(store), after);
 }
 
@@ -52,10 +41,14 @@ fn merge_twice<F: Tried<A, S>, A: Allocator + Copy, S: StoreName>(
     twin: &Twin,
     row: Row,
 ) -> Result<bool, Fail> {
-    let Some((merged, stale)) = merged_twice(alloc, store, row)? else {
-        return Ok(false);
-    };
-    install_twice(rt, store, merged, stale);
+    match both(
+        merged_next(alloc, store, row),
+        merged_next(alloc, store, row),
+    ) {
+        Ok((merged, stale)) => install_twice(rt, store, merged, stale),
+        Err(NoJob::NoRun) => return Ok(false),
+        Err(NoJob::NoMemory) => return Err(Fail::new("no memory for a merge")),
+    }
     assert_alike(rt, store, twin.plain());
     let _rows = assert_answers(rt, &store.take_version(rt)?, twin.plain())?;
     Ok(true)

@@ -2,7 +2,7 @@
 //!
 //! A store is made step by step, by functions that are generic in what they needn't know: one that names all types of a
 //! store stops at the checker's limit of steps.
-ghost use Rattle.std.specs.Prelude.{◌≡◌, ◌<◌, vec_len};
+ghost use Rattle.std.specs.Prelude.{◌≡◌, ◌<◌, vec_len, IfOk};
 ghost use Rattle.tf_manifest.specs.Registries.{AreShelves};
 
 use crate::memory::all_but;
@@ -15,10 +15,11 @@ use std::process::Abort;
 use std::sync::Wait;
 use std::test::Fail;
 use tf_manifest::Registries;
-use tf_readers::{Publishable, Reader};
+use tf_query::Version;
+use tf_readers::{Copies, Publishable, Reader};
 use tf_records::Refusal;
 use tf_rows::{EmptyRows, MutableTables, SealRows};
-use tf_store::{BlankStore, NewStore, Share, Store, StoreName};
+use tf_store::{BlankStore, Share, Store, StoreName, StoreOf, VersionCopies, VersionOf};
 
 /// How many shares each store has.
 const SHARES: u32 = 64;
@@ -38,9 +39,16 @@ fn assert_gathered<F: Tried<A, S>, A: Allocator + Copy, S: StoreName>(
     assert_eq!(rt; store.gather(shares), book);
 }
 
-/// An empty store with its shares, on which a trial is run, unless there is no memory for it. At last the shares are gathered.
-fn with_rows<T, A, S>(
-    rt: &(impl Abort + AllocGlobal + Wait),
+/// A new store that shows readers versions of type `V`, its shares, and its readers.
+type OpenedStore<T, V, A, S, R> = (
+    StoreOf<T, Copies<V, A, S, R>, A, S>,
+    Vec<Share<S>, A>,
+    Vec<Reader<V, A, S>, A>,
+);
+
+/// An empty store with its shares, on which a trial is run, unless there is no memory for it.
+fn with_rows<T, A, S, R>(
+    rt: &R,
     alloc: A,
     heap: &LocalHeap,
     registries: &Registries<A>,
@@ -51,39 +59,70 @@ where
     T: EmptyRows<A> + SealRows<A> + Drop,
     A: Allocator + Copy,
     S: StoreName,
+    R: Abort + AllocGlobal + Wait,
     requires name { blank.ledger.name ≡ S.name }
     requires parts { (blank.ledger.parts ≡ S.parts) × (S.parts ≡ 64) }
     requires history { blank.history ≡ S.history }
     requires registries { AreShelves S.shelf registries.now }
 {
-    let opened: Result<NewStore<T, A, S, _>, Refusal> = Store::new(
-        alloc,
-        rt,
-        registries,
-        blank,
-        SHARES,
-        trial.readers(),
-    );
-    match opened {
-        Ok((store, shares, readers)) => {
-            with_opened(rt, alloc, heap, store, shares, readers, trial)
-        }
-        Err(refusal) => {
-            assert!(rt; trial.lacks_memory());
-            assert_eq!(rt; refusal, Refusal::NoMemory);
-            Ok(())
-        }
-    }
+    let opened = Store::new(alloc, rt, registries, blank, SHARES, trial.readers());
+    with_versions::<T, A, S, Version<A, S>, R>(rt, alloc, heap, opened, trial)
 }
 
-/// A store on which a trial is run, and which is dropped then.
+/// The same of a new store. It is generic in the version that readers are shown.
+fn with_versions<T, A, S, V, R>(
+    rt: &R,
+    alloc: A,
+    heap: &LocalHeap,
+    opened: Result<OpenedStore<T, V, A, S, &R>, Refusal>,
+    trial: Trial,
+) -> Result<(), Fail>
+where
+    T: SealRows<A> + Drop,
+    A: Allocator + Copy,
+    S: StoreName,
+    V: VersionOf<Version<A, S>> + Publishable + Drop,
+    R: Abort + AllocGlobal + Wait,
+    requires shares { IfOk opened (λ o. vec_len o.1 ≡ 64) }
+    requires parts { S.parts ≡ 64 }
+{
+    with_copies(rt, alloc, heap, opened, trial)
+}
+
+/// The same. It is generic in what readers enter.
+fn with_copies<T, A, S, C, V, R>(
+    rt: &R,
+    alloc: A,
+    heap: &LocalHeap,
+    opened: Result<
+        (
+            StoreOf<T, C, A, S>,
+            Vec<Share<S>, A>,
+            Vec<Reader<V, A, S>, A>,
+        ),
+        Refusal,
+    >,
+    trial: Trial,
+) -> Result<(), Fail>
+where
+    T: SealRows<A> + Drop,
+    A: Allocator + Copy,
+    S: StoreName,
+    C: VersionCopies<Version<A, S>, S> + Drop,
+    V: Publishable + Drop,
+    R: Abort + AllocGlobal + Wait,
+    requires shares { IfOk opened (λ o. vec_len o.1 ≡ 64) }
+    requires parts { S.parts ≡ 64 }
+{
+    with_opened(rt, alloc, heap, opened, trial)
+}
+
+/// The same. It is generic in the store.
 fn with_opened<F, A, S, V>(
     rt: &(impl Abort + AllocGlobal + Wait),
     alloc: A,
     heap: &LocalHeap,
-    mut store: F,
-    shares: Vec<Share<S>, A>,
-    mut readers: Vec<Reader<V, A, S>, A>,
+    opened: Result<(F, Vec<Share<S>, A>, Vec<Reader<V, A, S>, A>), Refusal>,
     trial: Trial,
 ) -> Result<(), Fail>
 where
@@ -91,13 +130,25 @@ where
     V: Publishable + Drop,
     A: Allocator + Copy,
     S: StoreName,
-    requires { (vec_len shares ≡ 64) × (S.parts ≡ 64) }
+    requires shares { IfOk opened (λ o. vec_len o.1 ≡ 64) }
+    requires parts { S.parts ≡ 64 }
 {
-    let readers = readers.as_mut_slice();
-    let tried = with_store(rt, alloc, heap, &mut store, shares, readers, trial);
-    drop(store);
-    tried?;
-    trial.assert_dropped(rt, readers)
+    match opened {
+        Ok((mut store, shares, mut readers)) => {
+            let readers = readers.as_mut_slice();
+            let tried = with_store(rt, alloc, heap, &mut store, shares, readers, trial);
+            drop(store);
+            match tried {
+                Ok(()) => trial.assert_dropped(rt, readers),
+                Err(fail) => Err(fail),
+            }
+        }
+        Err(refusal) => {
+            assert!(rt; trial.lacks_memory());
+            assert_eq!(rt; refusal, Refusal::NoMemory);
+            Ok(())
+        }
+    }
 }
 
 /// A store on which a trial is run. At last its shares are gathered. It is generic in what readers enter.
@@ -135,7 +186,7 @@ fn with_name<'h, S: StoreName>(
     requires history { blank.history ≡ S.history }
     requires registries { AreShelves S.shelf registries.now }
 {
-    with_rows::<MutableTables<&'h LocalHeap>, &'h LocalHeap, S>(
+    with_rows::<MutableTables<&'h LocalHeap>, &'h LocalHeap, S, _>(
         rt, heap, heap, registries, blank, trial,
     )
 }

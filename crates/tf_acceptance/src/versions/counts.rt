@@ -106,8 +106,8 @@ pub fn assert_bounds_kept<F: SealRows<A> + Drop, A: Allocator + Copy, N: Naming>
 struct Figures {
     pushed: u32,
     publishes: u64,
-    rows_sealed: u64,
-    rows_held: u64,
+    rows_sealed: u128,
+    rows_held: u128,
     tables_of_transfers: u32,
 }
 
