@@ -1,3 +1,0 @@
-pub mod Stops
-pub mod Fronts
-pub mod Answered
