@@ -126,7 +126,7 @@ module _ {T : Type 0} where
             omega (arith, total_snoc (λ u. sum_by h u.offered) vs r, total_snoc (λ u. sum_by h u.taken) vs r)),
         fits_at _ _ (sym sum) (vs ++ r ∷ []) (fits_snoc (Fits (total parts_of views + 1)) vs r
             (fits_set (Fits (total parts_of views + 1)) views port l ((λ none. absurd (omega arith)), λ _. omega arith)
-                (λ j u apart e. let none = others_none views port v at (omega arith) j u apart e in ((b.1 j u e).0, λ some. absurd (omega arith))))
+            (λ j u apart e. let none = others_none views port v at (omega arith) j u apart e in ((b.1 j u e).0, λ some. absurd (omega arith))))
             ((λ _. (refl, refl)), λ some. absurd (omega arith))),
       )
 

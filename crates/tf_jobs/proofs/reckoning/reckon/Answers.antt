@@ -17,8 +17,7 @@ loop-seat-init g c =
     let is = c.last.view_is in
     let here : c.queue.inside.bench.table.shared.table_id ≡ c.args.queue.number = ap (λ (q : QueueView). q.number) c.queue.view_is in
     let whole : (view c.last.inside.pass).whole ≡ vec_len c.args.seats = ap (λ (s : SeatView g.row.T.Denot). s.seats) is ∙ popped.1.1 in
-    let len = c.args.seats.ok.0 in
-    (
+    let len = c.args.seats.ok.0 in (
       (ap (λ (s : SeatView g.row.T.Denot). s.queue) is ∙ popped.1.0 ∙ sym here, c.last.invariant.0),
       All-weaker P Q (λ s p. (p.0 ∙ sym here, p.1)) c.pop.new.self.items popped.0,
       first_seat c.args.seats.items c.pop.new.self.items c.in-Some.last (view c.last.inside.pass) c.last.inside.offered c.last.inside.taken
@@ -36,16 +35,15 @@ loop-seat-preserved g c =
     let was = c.loop-seat.invariant in
     let popped = All-pop Q c.loop-seat.seats.items c.pop-in-loop-seat.new.self.items (Some c.in-Some-pop.seat) c.in-Some-pop.ensures.items was.1 in
     let same = c.absorb.ensures.queue in
-    let is = c.seat.view_is in
-    (
+    let is = c.seat.view_is in (
       (same.0 ∙ was.0.0, same.2 ∙ was.0.1),
       popped.0,
       subst (λ v. IsSoFar c.args.seats.items c.pop-in-loop-seat.new.self.items v c.saturating_add-offered.result c.saturating_add-taken.result) (sym c.absorb.ensures.rule)
           (next_seat c.args.seats.items c.loop-seat.seats.items c.pop-in-loop-seat.new.self.items c.in-Some-pop.seat (view c.loop-seat.pass) (view c.seat.inside.pass)
-              c.loop-seat.offered c.loop-seat.taken c.seat.inside.offered c.seat.inside.taken c.saturating_add-offered.result c.saturating_add-taken.result
-              c.in-Some-pop.ensures.items was.2 c.seat.invariant.1
-              (sym (ap (λ (s : SeatView g.row.T.Denot). s.offered) is)) (sym (ap (λ (s : SeatView g.row.T.Denot). s.taken) is))
-              c.seat.invariant.2 c.seat.invariant.3 (search rules) (search rules)),
+          c.loop-seat.offered c.loop-seat.taken c.seat.inside.offered c.seat.inside.taken c.saturating_add-offered.result c.saturating_add-taken.result
+          c.in-Some-pop.ensures.items was.2 c.seat.invariant.1
+          (sym (ap (λ (s : SeatView g.row.T.Denot). s.offered) is)) (sym (ap (λ (s : SeatView g.row.T.Denot). s.taken) is))
+          c.seat.invariant.2 c.seat.invariant.3 (search rules) (search rules)),
     )
 
 pub len_as-left-requires-clause-rule : goal.len_as-left-requires-clause-rule

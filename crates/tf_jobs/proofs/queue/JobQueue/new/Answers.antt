@@ -12,8 +12,7 @@ another-cut-requires-clause-rule g c = cuts _ _ (omega (arith, ap (λ v. v.parts
 
 pub loop-at-preserved : goal.loop-at-preserved
 loop-at-preserved g c =
-    let P : SeatView g.row.T.Denot → Type 0 = λ s. (s.queue ≡ c.in_ok-bench.bench.table.shared.table_id) × (s.seats ≡ c.args.seats) × (s.offered ≡ []) × (s.taken ≡ []) in
-    (
+    let P : SeatView g.row.T.Denot → Type 0 = λ s. (s.queue ≡ c.in_ok-bench.bench.table.shared.table_id) × (s.seats ≡ c.args.seats) × (s.offered ≡ []) × (s.taken ≡ []) in (
       search rules,
       search rules,
       search rules,
