@@ -12,3 +12,7 @@ mod kinds;
 mod manifests;
 #[cfg(test)]
 mod refusals;
+#[cfg(test)]
+mod rows;
+#[cfg(test)]
+mod trials;

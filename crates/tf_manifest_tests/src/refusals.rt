@@ -1,28 +1,23 @@
 //! Requests for memory that are refused, each in turn.
-ghost use Rattle.std.specs.Prelude.{◌≡◌, ◌<◌, length};
+ghost use Rattle.std.specs.Prelude.{◌≡◌};
 ghost use Rattle.std.specs.Arc.{arc_value};
-ghost use Rattle.tf_registry.specs.Row.{weight};
 
-use crate::fixture::{Outcome, assert_installs, assert_row, grow_to, key, merged, table};
+use crate::fixture::{Outcome, Tried, assert_installs, grow_to, is_seen, merged};
+use crate::rows::Numbers;
 use linked_list_allocator::LocalHeap;
+use std::alloc::Allocator;
 use std::marker::Brand;
 use std::process::Abort;
 use std::sync::{Arc, Wait};
 use std::test::Fail;
-use tf_manifest::KindRows;
 use tf_records::Refusal;
-use tf_registry::{
-    Held, Job as RowJob, Merged as RowMerged, Naming, Pushes, Registry, RowUninstalled, Tables,
-};
+use tf_registry::{Naming, Registry, Uninstalled};
 
 /// Bytes of a heap on which everything has room.
 const AMPLE: usize = 1 << 16;
 
 /// Tables for which a registry makes room first. The push of one more asks for memory.
 const TABLES: u64 = 32;
-
-/// A row of numbers on a heap.
-type Numbers<'h, N> = Tables<u64, &'h LocalHeap, N>;
 
 /// A registry of numbers on a heap, which rows own too.
 type Shared<'h> = Arc<Registry<u64, &'h LocalHeap>, &'h LocalHeap>;
@@ -53,183 +48,129 @@ fn all_but(heap: &LocalHeap, room: usize) -> Result<Vec<u8, &LocalHeap>, Fail> {
     Ok(Vec::with_capacity(heap, left)?)
 }
 
-/// Gives a row `TABLES` tables of one row each, whose keys and values are the numbers. The registry, which is on the heap,
+/// Gives the row `TABLES` tables of one row each, whose keys and values are the numbers. The registry, which is on the heap,
 /// has no room for more then.
-fn fill<'h, N: Naming>(
+fn fill<A: Allocator + Copy, T: Tried<A>>(
     rt: &impl Wait,
-    registry: &Registry<u64, &'h LocalHeap>,
-    row: &mut Numbers<'h, N>,
-    heap: &'h LocalHeap,
-    store: &'h LocalHeap,
-) -> Result<(), Fail>
-    requires here { registry.now ≡ N.shelf 0 }
-    requires length { length row.old ≡ 0 }
-    requires weight { weight row.old ≡ 0 }
-{
+    rows: &mut T,
+    ballast: &LocalHeap,
+    store: A,
+) -> Result<(), Fail> {
     // Some pushes before the room is used up, a push tries to make more.
-    grow_to(rt, store, registry, row, 0, 20)?;
-    let taken = all_but(heap, 0)?;
-    let filled = grow_to(rt, store, registry, row, 20, TABLES);
+    grow_to(rt, store, rows, 0, 20)?;
+    let taken = all_but(ballast, 0)?;
+    let filled = grow_to(rt, store, rows, 20, TABLES);
     drop(taken);
     filled
 }
 
-/// Merges the run of a row. It tells whether that was refused at first.
-fn merge_again<'h, N: Naming>(
+/// Merges the run of the row. It tells whether that was refused at first.
+fn merge_again<A: Allocator + Copy, T: Tried<A>>(
     rt: &impl Abort,
-    row: &Numbers<'h, N>,
-    heap: &'h LocalHeap,
+    rows: &T,
+    ballast: &LocalHeap,
+    heap: A,
     room: usize,
 ) -> Result<bool, Fail> {
-    let job = row.pick()?.ok_or("no job")?;
-    let refused = is_refused_at_first(rt, &job, heap, room);
+    let Some(job) = rows.job() else {
+        return Err(Fail::new("no job"));
+    };
+    let refused = is_refused_at_first::<A, T>(rt, &job, ballast, heap, room);
     drop(job);
-    assert_row(rt, row, 32, 32);
+    assert!(rt; is_seen(rows, 32, 32, 32));
     refused
 }
 
-/// Whether a merge is refused with so much room. If it is, it is made with more.
-fn is_refused_at_first<'h, N: Naming>(
+/// Whether a merge is refused with so much room, for want of memory. If it is, it is made with more.
+fn is_refused_at_first<A: Allocator + Copy, T: Tried<A>>(
     rt: &impl Abort,
-    job: &RowJob<u64, &'h LocalHeap, N>,
-    heap: &'h LocalHeap,
+    job: &T::Job,
+    ballast: &LocalHeap,
+    heap: A,
     room: usize,
 ) -> Result<bool, Fail> {
-    let taken = all_but(heap, room)?;
-    let refused = has_no_memory(rt, job, heap);
+    let taken = all_but(ballast, room)?;
+    let merged = T::merge(job, heap);
     drop(taken);
-    if refused {
-        assert_merges(rt, job, heap);
-    }
-    Ok(refused)
-}
-
-/// Whether a merge is refused, which is for want of memory.
-fn has_no_memory<'h, N: Naming>(
-    rt: &impl Abort,
-    job: &RowJob<u64, &'h LocalHeap, N>,
-    heap: &'h LocalHeap,
-) -> bool {
-    match job.merge(heap) {
-        Ok(_) => false,
+    match merged {
+        Ok(_) => Ok(false),
         Err(refusal) => {
             assert!(rt; refusal == Refusal::NoMemory);
-            true
+            assert!(rt; has_two::<A, T>(job, heap));
+            Ok(true)
         }
     }
 }
 
-/// A job of two tables of one row each is merged.
-fn assert_merges<'h, N: Naming>(
-    rt: &impl Abort,
-    job: &RowJob<u64, &'h LocalHeap, N>,
-    heap: &'h LocalHeap,
-) {
-    match job.merge(heap) {
-        Ok(merged) => assert!(rt; merged.entries() == 2),
-        Err(_) => panic!(rt; "no memory for a merge"),
+/// Whether a job of two tables of one row each is merged.
+fn has_two<A: Allocator + Copy, T: Tried<A>>(job: &T::Job, heap: A) -> bool {
+    match T::merge(job, heap) {
+        Ok(merged) => T::entries(&merged) == 2,
+        Err(_) => false,
     }
 }
 
-/// Pushes a table. It tells whether the table was handed back at first.
-fn push_again<'h, N: Naming>(
+/// Pushes a table of the number 32. It tells whether the table was handed back at first.
+fn push_again<A: Allocator + Copy, T: Tried<A>>(
     rt: &(impl Abort + Wait),
-    rows: &KindRows<u64, &'h LocalHeap, N>,
-    heap: &'h LocalHeap,
-    store: &'h LocalHeap,
+    rows: &mut T,
+    ballast: &LocalHeap,
+    store: A,
     room: usize,
 ) -> Result<bool, Fail> {
-    let taken = all_but(heap, room)?;
-    let held = table(store, 32, Some(32), false)?;
-    let mut pushes = Pushes::new(1);
-    match rows.push(rt, &mut pushes, held) {
-        Ok(_) => Ok(false),
+    let table = rows.table(store, 32, Some(32))?;
+    let taken = all_but(ballast, room)?;
+    match rows.put(rt, table) {
+        Ok(()) => Ok(false),
         Err(back) => {
-            assert!(rt; pushes.count() == 0);
+            assert!(rt; is_seen(rows, 32, 32, 32));
             drop(taken);
-            assert_pushes(rt, rows, &mut pushes, back);
+            assert_pushes(rt, rows, back);
             Ok(true)
         }
     }
 }
 
 /// A table of the number 32 is pushed behind 32 others.
-fn assert_pushes<'h, N: Naming>(
+fn assert_pushes<A: Allocator + Copy, T: Tried<A>>(
     rt: &(impl Abort + Wait),
-    rows: &KindRows<u64, &'h LocalHeap, N>,
-    pushes: &mut Pushes,
-    held: Held<u64, &'h LocalHeap>,
-)
-    requires { pushes.old.count < pushes.old.limit }
-{
-    assert!(rt; matches!(held.table().find(&key(32)), Some(Some(32))));
-    match rows.push(rt, pushes, held) {
-        Ok(pushed) => assert!(rt; pushed.number() == 33 && pushes.count() == 1),
-        Err(_) => panic!(rt; "no memory for a push"),
-    }
+    rows: &mut T,
+    table: T::Table,
+) {
+    assert!(rt; T::has(&table, 32));
+    assert!(rt; rows.put(rt, table).is_ok());
+    assert!(rt; is_seen(rows, 33, 33, 33) && rows.newest() == 33);
 }
 
-/// Makes rows, and pushes a table for them.
-fn push_for_rows<'h, N: Naming>(
+/// Merges the run of the row and installs it. It tells whether the merged table was handed back at first.
+fn install_again<A: Allocator + Copy, T: Tried<A>>(
     rt: &(impl Abort + Wait),
-    registry: &Shared<'h>,
-    heap: &'h LocalHeap,
-    store: &'h LocalHeap,
+    rows: &mut T,
+    ballast: &LocalHeap,
+    store: A,
     room: usize,
-) -> Result<bool, Fail>
-    requires here { arc_value registry.now ≡ N.shelf 0 }
-{
-    let rows = KindRows::<u64, &LocalHeap, N>::new(registry, 1, store)?;
-    let tried = push_again(rt, &rows, heap, store, room);
-    drop(rows);
-    tried
-}
-
-/// Merges the run of a row and installs it. It tells whether the merged table was handed back at first.
-fn install_again<'h, N: Naming>(
-    rt: &(impl Abort + Wait),
-    registry: &Registry<u64, &'h LocalHeap>,
-    row: &mut Numbers<'h, N>,
-    heap: &'h LocalHeap,
-    store: &'h LocalHeap,
-    room: usize,
-) -> Result<bool, Fail>
-    requires here { registry.now ≡ N.shelf 0 }
-{
-    let taken = all_but(heap, room)?;
-    match merged(store, row) {
-        Some(out) => Ok(is_handed_back(rt, registry, row, out, taken)),
+) -> Result<bool, Fail> {
+    let taken = all_but(ballast, room)?;
+    match merged(store, rows) {
+        Some(out) => Ok(is_handed_back(rt, rows, out, taken)),
         None => Err(Fail::new("no merge")),
     }
 }
 
 /// Whether a merged table is handed back for want of memory. If it is, it is installed where less is taken.
-fn is_handed_back<'h, N: Naming>(
+fn is_handed_back<A: Allocator + Copy, T: Tried<A>>(
     rt: &(impl Abort + Wait),
-    registry: &Registry<u64, &'h LocalHeap>,
-    row: &mut Numbers<'h, N>,
-    out: RowMerged<u64, &'h LocalHeap, N>,
-    taken: Vec<u8, &'h LocalHeap>,
-) -> bool
-    requires here { registry.now ≡ N.shelf 0 }
-{
-    let mut pushes = Pushes::new(1);
-    match row.install(rt, registry, &mut pushes, out) {
+    rows: &mut T,
+    out: T::Merged,
+    taken: Vec<u8, &LocalHeap>,
+) -> bool {
+    match rows.install(rt, out) {
         Ok(()) => false,
-        Err(RowUninstalled::NoMemory(back)) => {
-            assert!(rt; pushes.count() == 0);
-            assert_row(rt, row, 32, 32);
+        Err(Uninstalled::NoMemory(back)) => {
+            assert!(rt; is_seen(rows, 32, 32, 32));
             drop(taken);
-            assert_installs(
-                rt,
-                registry,
-                row,
-                &mut pushes,
-                Some(back),
-                Outcome::Installed,
-            );
-            assert!(rt; pushes.count() == 1);
-            assert_row(rt, row, 31, 32);
+            assert_installs(rt, rows, Some(back), Outcome::Installed);
+            assert!(rt; is_seen(rows, 31, 32, 33));
             true
         }
         Err(_) => panic!(rt; "the install wasn't refused for want of memory"),
@@ -237,29 +178,45 @@ fn is_handed_back<'h, N: Naming>(
 }
 
 /// Makes a call in a row, which it fills first. It tells whether the call was refused at first.
-fn call_in<'h, N: Naming>(
+fn call_in<A: Allocator + Copy, T: Tried<A>>(
     rt: &(impl Abort + Wait),
-    registry: &Shared<'h>,
-    row: &mut Numbers<'h, N>,
-    heap: &'h LocalHeap,
-    store: &'h LocalHeap,
+    rows: &mut T,
+    ballast: &LocalHeap,
+    heap: A,
+    store: A,
     call: Call,
     room: usize,
-) -> Result<bool, Fail>
-    requires here { arc_value registry.now ≡ N.shelf 0 }
-    requires length { length row.old ≡ 0 }
-    requires weight { weight row.old ≡ 0 }
-{
-    fill(rt, registry, row, heap, store)?;
+) -> Result<bool, Fail> {
+    fill(rt, rows, ballast, store)?;
     match call {
-        Call::Merge => merge_again(rt, row, heap, room),
-        Call::Push => push_for_rows::<N>(rt, registry, heap, store, room),
-        Call::Install => install_again(rt, registry, row, heap, store, room),
+        Call::Merge => merge_again(rt, rows, ballast, heap, room),
+        Call::Push => push_again(rt, rows, ballast, store, room),
+        Call::Install => install_again(rt, rows, ballast, store, room),
     }
 }
 
-/// Makes a call in a row of its own.
-fn with_row<'h, N: Naming>(
+/// Makes a call in rows that were made for it, if there was memory for them.
+fn called<A: Allocator + Copy, T: Tried<A>>(
+    rt: &(impl Abort + Wait),
+    made: Result<T, Refusal>,
+    ballast: &LocalHeap,
+    heap: A,
+    store: A,
+    call: Call,
+    room: usize,
+) -> Result<bool, Fail> {
+    match made {
+        Ok(mut rows) => {
+            let refused = call_in(rt, &mut rows, ballast, heap, store, call, room);
+            drop(rows);
+            refused
+        }
+        Err(_) => Err(Fail::new("no memory for rows")),
+    }
+}
+
+/// Makes a call in rows of its own.
+fn with_rows<'h, N: Naming>(
     rt: &(impl Abort + Wait),
     registry: &Shared<'h>,
     heap: &'h LocalHeap,
@@ -269,10 +226,8 @@ fn with_row<'h, N: Naming>(
 ) -> Result<bool, Fail>
     requires here { arc_value registry.now ≡ N.shelf 0 }
 {
-    let mut row = Tables::<u64, &LocalHeap, N>::new(store)?;
-    let tried = call_in(rt, registry, &mut row, heap, store, call, room);
-    drop(row);
-    tried
+    let rows: Result<Numbers<&'h LocalHeap, N>, Refusal> = Numbers::new(registry, 64, store);
+    called(rt, rows, heap, heap, store, call, room)
 }
 
 /// Makes a call with a registry of its own.
@@ -286,9 +241,9 @@ fn with_registry(
     let Ok(registry) = Arc::new(heap, Registry::new(heap)?) else {
         return Err(Fail::new("no memory for a registry"));
     };
-    let tried = with_row::<Brand>(rt, &registry, heap, store, call, room);
+    let refused = with_rows::<Brand>(rt, &registry, heap, store, call, room);
     drop(registry);
-    tried
+    refused
 }
 
 /// Makes a call with so much room on its heap, and if it is refused again with all of it. It tells whether it was refused.

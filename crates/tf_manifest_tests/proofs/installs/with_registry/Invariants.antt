@@ -1,4 +1,5 @@
+use Rattle.std.specs.Arc.{arc_value}
 use Rattle.tf_manifest_tests.proofs.installs.with_registry.Given as goal
 
-abbrev pub ghosts-with_row : goal.ghosts-with_row
-ghosts-with_row g a = record { shelf = λ _. a.registry.now }
+abbrev pub ghosts-with_rows : goal.ghosts-with_rows
+ghosts-with_rows g a = record { shelf = λ _. arc_value a.registry.now }
