@@ -1,0 +1,8 @@
+use Rattle.std.proofs.Common.{◌≡◌, ◌+◌, ◌≤◌, length, vec_capacity, vec_len}
+use Rattle.tf_crew.proofs.start.fn.run_workers.scope.Given as goal
+
+abbrev pub invariant-loop-reader : goal.invariant-loop-reader
+invariant-loop-reader g l =
+    (l.place + length l.reader-iterator.rest.items ≤ length l.asks)
+    × (vec_len l.threads ≡ l.place)
+    × (l.place + length l.reader-iterator.rest.items ≤ vec_capacity l.threads)
