@@ -1,12 +1,13 @@
 //! Many filters that are answered at once.
 ghost use Rattle.tf_acceptance.specs.Rest.{IsAtRest};
 
-use super::asking::{ask, ask_plain, has_same_rows, is_same};
+use super::asking::{Asked, ask_plain, is_same};
 use super::filters::any_query;
-use super::publishing::{Sealing, publish, run_published};
+use super::published::{Published, Sealing};
+use super::publishing::run_published;
 use crate::dice::Dice;
 use crate::random;
-use std::alloc::{Allocator, Global};
+use std::alloc::Global;
 use std::marker::{Send, Sync};
 use std::process::Abort;
 use std::sync::Wait;
@@ -45,22 +46,18 @@ fn queries(
 }
 
 /// A version answers all these queries at once as one by one, and as the plain ledger does.
-fn assert_all_answered<A, N>(
+fn assert_all_answered<N: Naming + Send + Sync>(
     rt: &(impl Abort + AllocGlobal + Threads + Sync),
-    version: &Version<A, N>,
+    version: &Version<Global, N>,
     plain: &PlainLedger<Global>,
     queries: &[Query],
-) -> Result<(), Fail>
-where
-    A: Allocator + Send + Sync,
-    N: Naming + Send + Sync,
-{
+) -> Result<(), Fail> {
     let filters: Vec<Filter> = queries.iter().map(filter_of).collect(rt.alloc())?;
     let answers = query_all(rt, rt.alloc(), version, filters.as_slice())?;
     assert!(rt; answers.len() == queries.len());
     for (query, answer) in queries.iter().zip(answers) {
         let question = Command::<Global>::Query(*query);
-        let alone = ask(rt.alloc(), version, &question);
+        let alone = version.ask(rt.alloc(), &question);
         let together = Ok(Some(answer));
         assert!(rt; is_same(&alone, &together));
         assert!(rt; is_same(&alone, &ask_plain(rt.alloc(), plain, &question)));
@@ -69,21 +66,17 @@ where
 }
 
 /// A version of a random journal answers 4,096 random filters at once as one by one, and none as well.
-pub fn assert_many_answered<F, A, N>(
+pub fn assert_many_answered<F: SealRows<Global> + Drop, N: Naming + Send + Sync>(
     rt: &(impl Abort + AllocGlobal + Wait + Threads + Sync),
-    alloc: A,
-    forest: &mut Sealing<F, A, N>,
+    alloc: Global,
+    forest: &mut Sealing<F, N>,
 ) -> Result<(), Fail>
-where
-    F: SealRows<A> + Drop,
-    A: Allocator + Copy + Send + Sync,
-    N: Naming + Send + Sync,
     requires { IsAtRest forest.old.journal forest.old.clock forest.old.kept }
 {
     let mut plain = PlainLedger::new(rt.alloc());
     let commands = random::commands(rt.alloc(), 4096, 60)?;
     run_published(rt, alloc, &mut plain, forest, commands.as_slice())?;
-    let version = publish(rt, alloc, forest)?;
+    let version = forest.version(rt, alloc)?;
     let asked = queries(rt.alloc(), &plain, 4096)?;
     assert_all_answered(rt, &version, &plain, asked.as_slice())?;
     assert_all_answered(rt, &version, &plain, &[])

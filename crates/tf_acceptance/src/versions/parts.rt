@@ -1,19 +1,17 @@
 //! Answers about as long as the parts, of 256 timestamps, in which queries read a scan.
 ghost use Rattle.tf_acceptance.specs.Rest.{IsAtRest};
 
-use super::asking::assert_answer;
-use super::publishing::{Sealing, publish, run_published};
+use super::asking::{Asked, assert_answer};
+use super::published::Published;
+use super::publishing::run_published;
 use crate::dice::Dice;
 use crate::random;
-use std::alloc::{Allocator, Global};
+use std::alloc::Global;
 use std::process::Abort;
 use std::sync::Wait;
 use std::test::Fail;
 use tf_journal::PlainLedger;
-use tf_query::Version;
 use tf_records::{AccountFilter, QueryFilter, Refusal, Transfer};
-use tf_registry::Naming;
-use tf_rows::SealRows;
 use tf_script::{Command, Query};
 
 /// Limits beside the ends of parts, and above all rows.
@@ -112,9 +110,9 @@ fn of_all(span: Span, code: u16) -> QueryFilter {
 }
 
 /// A union, the same with balances, all records and a field alone: as many rows each.
-fn assert_span_answered<A: Allocator, N: Naming>(
+fn assert_span_answered<V: Asked>(
     rt: &(impl Abort + AllocGlobal),
-    version: &Version<A, N>,
+    version: &V,
     plain: &PlainLedger<Global>,
     span: Span,
 ) {
@@ -132,9 +130,9 @@ fn assert_span_answered<A: Allocator, N: Naming>(
 }
 
 /// A version answers queries with each limit between two transfers, in both directions, as the plain ledger does.
-fn assert_limits_answered<A: Allocator, N: Naming>(
+fn assert_limits_answered<V: Asked>(
     rt: &(impl Abort + AllocGlobal),
-    version: &Version<A, N>,
+    version: &V,
     plain: &PlainLedger<Global>,
     low: u64,
     high: u64,
@@ -153,17 +151,17 @@ fn assert_limits_answered<A: Allocator, N: Naming>(
 }
 
 /// A version of 800 transfers in four tables answers queries of about as many rows as a part has as the plain ledger does.
-pub fn assert_parts_answered<F: SealRows<A> + Drop, A: Allocator + Copy, N: Naming>(
+pub fn assert_parts_answered<T: Published>(
     rt: &(impl Abort + AllocGlobal + Wait),
-    alloc: A,
-    forest: &mut Sealing<F, A, N>,
+    alloc: Global,
+    forest: &mut T,
 ) -> Result<(), Fail>
-    requires { IsAtRest forest.old.journal forest.old.clock forest.old.kept }
+    requires { IsAtRest (T.journal forest.old) (T.clock forest.old) (T.kept forest.old) }
 {
     let mut plain = PlainLedger::new(rt.alloc());
     let commands = commands(rt.alloc())?;
     run_published(rt, alloc, &mut plain, forest, commands.as_slice())?;
-    let version = publish(rt, alloc, forest)?;
+    let version = forest.version(rt, alloc)?;
     for (first, last) in BOUNDS {
         let low = moment(&plain, first);
         let high = moment(&plain, last);

@@ -1,20 +1,18 @@
 //! Requests for memory that are refused to queries and look-ups, each in turn.
 ghost use Rattle.tf_acceptance.specs.Rest.{IsAtRest};
 
-use super::asking::{ask, ask_plain, count_of, is_same};
-use super::publishing::{Sealing, publish, run_published};
+use super::asking::{Asked, ask_plain, count_of, is_same};
+use super::published::Published;
+use super::publishing::run_published;
 use crate::memory::{AMPLE, all_but};
 use crate::random;
 use linked_list_allocator::LocalHeap;
-use std::alloc::{AllocError, Allocator, Global};
+use std::alloc::{AllocError, Global};
 use std::process::Abort;
 use std::sync::Wait;
 use std::test::Fail;
 use tf_journal::PlainLedger;
-use tf_query::Version;
 use tf_records::{AccountFilter, QueryFilter, Refusal};
-use tf_registry::Naming;
-use tf_rows::SealRows;
 use tf_script::{Command, Query};
 
 /// A filter of the transfers of an account with history, on both sides and by two fields.
@@ -107,9 +105,9 @@ fn look_up_cases(alloc: Global) -> Result<[Case; 6], AllocError> {
 
 /// Asks a version with hardly any memory at first and then more and more, until it isn't refused any more. It answers as
 /// the plain ledger does then, and with memory after each refusal. Tells how often it was refused.
-fn refusals<A: Allocator, N: Naming>(
+fn refusals<V: Asked>(
     rt: &(impl Abort + AllocGlobal),
-    version: &Version<A, N>,
+    version: &V,
     plain: &PlainLedger<Global>,
     question: &Command<Global>,
     step: usize,
@@ -118,21 +116,21 @@ fn refusals<A: Allocator, N: Naming>(
     let expected = ask_plain(rt.alloc(), plain, question);
     for refused in 0..AMPLE / 16 {
         let taken = all_but(rt.alloc(), &heap, refused.saturating_mul(step))?;
-        let outcome = ask(&heap, version, question);
+        let outcome = version.ask(&heap, question);
         drop(taken);
         if !matches!(outcome, Err(Refusal::NoMemory)) {
             assert!(rt; is_same(&outcome, &expected));
             return Ok(refused);
         }
-        assert!(rt; is_same(&ask(rt.alloc(), version, question), &expected));
+        assert!(rt; is_same(&version.ask(rt.alloc(), question), &expected));
     }
     Err(Fail::new("refused with ample memory"))
 }
 
 /// Each case is refused in turn where it takes memory, and else never.
-fn assert_cases<A: Allocator, N: Naming>(
+fn assert_cases<V: Asked>(
     rt: &(impl Abort + AllocGlobal),
-    version: &Version<A, N>,
+    version: &V,
     plain: &PlainLedger<Global>,
     cases: &[Case],
 ) -> Result<(), Fail> {
@@ -146,17 +144,17 @@ fn assert_cases<A: Allocator, N: Naming>(
 }
 
 /// A version of a random journal is refused memory in turn for each query and look-up.
-pub fn assert_refused_in_turn<F: SealRows<A> + Drop, A: Allocator + Copy, N: Naming>(
+pub fn assert_refused_in_turn<T: Published>(
     rt: &(impl Abort + AllocGlobal + Wait),
-    alloc: A,
-    forest: &mut Sealing<F, A, N>,
+    alloc: Global,
+    forest: &mut T,
 ) -> Result<(), Fail>
-    requires { IsAtRest forest.old.journal forest.old.clock forest.old.kept }
+    requires { IsAtRest (T.journal forest.old) (T.clock forest.old) (T.kept forest.old) }
 {
     let mut plain = PlainLedger::new(rt.alloc());
     let commands = random::commands(rt.alloc(), 5, 30)?;
     run_published(rt, alloc, &mut plain, forest, commands.as_slice())?;
-    let version = publish(rt, alloc, forest)?;
+    let version = forest.version(rt, alloc)?;
     assert_cases(rt, &version, &plain, &query_cases())?;
     assert_cases(rt, &version, &plain, &look_up_cases(rt.alloc())?)
 }
