@@ -9,7 +9,6 @@ mod journals;
 mod many;
 mod merges;
 mod parts;
-mod published;
 mod publishing;
 mod refusals;
 mod scripts;
@@ -26,11 +25,11 @@ use counts::{assert_bounds_kept, assert_limit_holds};
 use journals::assert_journal_answered;
 use many::assert_many_answered;
 use parts::assert_parts_answered;
-use published::Published;
+use publishing::Sealing;
 use refusals::assert_refused_in_turn;
 use scripts::assert_script_answered;
 use stays::assert_version_stays;
-use std::alloc::Global;
+use std::alloc::{Allocator, Global};
 use std::marker::{Brand, Send, Sync};
 use std::process::Abort;
 use std::sync::Wait;
@@ -83,21 +82,24 @@ impl Trial {
     }
 }
 
-/// Tries what needs no other thread.
-fn try_forest<T: Published>(
-    rt: &(impl Abort + AllocGlobal + Wait),
-    alloc: Global,
-    forest: &mut T,
+fn try_forest<F, A, N>(
+    rt: &(impl Abort + AllocGlobal + Wait + Threads + Sync),
+    alloc: A,
+    forest: &mut Sealing<F, A, N>,
     trial: Trial,
     turn: usize,
 ) -> Result<(), Fail>
-    requires { IsAtRest (T.journal forest.old) (T.clock forest.old) (T.kept forest.old) }
+where
+    F: SealRows<A> + Drop,
+    A: Allocator + Copy + Send + Sync,
+    N: Naming + Send + Sync,
+    requires { IsAtRest forest.old.journal forest.old.clock forest.old.kept }
 {
     match trial {
         Trial::Stays => assert_version_stays(rt, alloc, forest),
         Trial::Scripts => assert_script_answered(rt, alloc, forest, turn),
         Trial::Journals => assert_journal_answered(rt, alloc, forest, turn as u64),
-        Trial::Many => Ok(()),
+        Trial::Many => assert_many_answered(rt, alloc, forest),
         Trial::Parts => assert_parts_answered(rt, alloc, forest),
         Trial::Refusals => assert_refused_in_turn(rt, alloc, forest),
         Trial::Bounds => assert_bounds_kept(rt, alloc, forest),
@@ -105,22 +107,21 @@ fn try_forest<T: Published>(
     }
 }
 
-fn try_rows<F: SealRows<Global> + Drop, N: Naming + Send + Sync>(
+fn try_rows<F, A, N>(
     rt: &(impl Abort + AllocGlobal + Wait + Threads + Sync),
-    alloc: Global,
-    rows: Rows<F, Global, N>,
+    alloc: A,
+    rows: Rows<F, A, N>,
     trial: Trial,
     turn: usize,
 ) -> Result<(), Fail>
+where
+    F: SealRows<A> + Drop,
+    A: Allocator + Copy + Send + Sync,
+    N: Naming + Send + Sync,
     requires { AreEmpty (parts_of (F.entries rows.fresh) rows.published.tables) }
 {
     let mut forest = Forest::new(alloc, rows);
-    let tried = match trial {
-        Trial::Many => assert_many_answered(rt, alloc, &mut forest),
-        _ => try_forest(rt, alloc, &mut forest, trial, turn),
-    };
-    drop(forest);
-    tried
+    try_forest(rt, alloc, &mut forest, trial, turn)
 }
 
 /// Each turn of a trial, with rows that have nothing.

@@ -44,40 +44,33 @@ pub fn ask_plain<A: Allocator + Copy, B: Allocator>(
     }))
 }
 
-/// A version, which queries and look-ups are asked of.
-pub trait Asked: Drop {
-    /// What it answers.
-    fn ask<B: Allocator + Copy, C: Allocator>(&self, alloc: B, question: &Command<C>) -> Outcome<B>;
-}
-
-impl<N: Naming> Asked for Version<Global, N> {
-    fn ask<B: Allocator + Copy, C: Allocator>(
-        &self,
-        alloc: B,
-        question: &Command<C>,
-    ) -> Outcome<B> {
-        Ok(Some(match question {
-            Command::Query(Query::AccountTransfers(filter)) => {
-                Answer::AccountTransfers(self.get_account_transfers(alloc, filter)?)
-            }
-            Command::Query(Query::AccountBalances(filter)) => {
-                Answer::AccountBalances(self.get_account_balances(alloc, filter)?)
-            }
-            Command::Query(Query::Accounts(filter)) => {
-                Answer::Accounts(self.query_accounts(alloc, filter)?)
-            }
-            Command::Query(Query::Transfers(filter)) => {
-                Answer::Transfers(self.query_transfers(alloc, filter)?)
-            }
-            Command::LookupAccounts(ids) => {
-                Answer::Accounts(self.lookup_accounts(alloc, ids.as_slice())?)
-            }
-            Command::LookupTransfers(ids) => {
-                Answer::Transfers(self.lookup_transfers(alloc, ids.as_slice())?)
-            }
-            _ => return Ok(None),
-        }))
-    }
+/// What a version answers.
+pub fn ask<A: Allocator, N: Naming, B: Allocator + Copy, C: Allocator>(
+    alloc: B,
+    version: &Version<A, N>,
+    question: &Command<C>,
+) -> Outcome<B> {
+    Ok(Some(match question {
+        Command::Query(Query::AccountTransfers(filter)) => {
+            Answer::AccountTransfers(version.get_account_transfers(alloc, filter)?)
+        }
+        Command::Query(Query::AccountBalances(filter)) => {
+            Answer::AccountBalances(version.get_account_balances(alloc, filter)?)
+        }
+        Command::Query(Query::Accounts(filter)) => {
+            Answer::Accounts(version.query_accounts(alloc, filter)?)
+        }
+        Command::Query(Query::Transfers(filter)) => {
+            Answer::Transfers(version.query_transfers(alloc, filter)?)
+        }
+        Command::LookupAccounts(ids) => {
+            Answer::Accounts(version.lookup_accounts(alloc, ids.as_slice())?)
+        }
+        Command::LookupTransfers(ids) => {
+            Answer::Transfers(version.lookup_transfers(alloc, ids.as_slice())?)
+        }
+        _ => return Ok(None),
+    }))
 }
 
 /// Whether both answers are those of the same query, with the same rows in the same order.
@@ -116,21 +109,21 @@ pub fn count_of<A: Allocator>(outcome: &Outcome<A>) -> usize {
 }
 
 /// A version answers a command as the plain ledger does. Tells how many rows the answer has.
-pub fn assert_answer<V: Asked, B: Allocator>(
+pub fn assert_answer<A: Allocator, N: Naming, B: Allocator>(
     rt: &(impl Abort + AllocGlobal),
-    version: &V,
+    version: &Version<A, N>,
     plain: &PlainLedger<Global>,
     question: &Command<B>,
 ) -> usize {
     let expected = ask_plain(rt.alloc(), plain, question);
-    assert!(rt; is_same(&version.ask(rt.alloc(), question), &expected));
+    assert!(rt; is_same(&ask(rt.alloc(), version, question), &expected));
     count_of(&expected)
 }
 
 /// A version answers each of these commands as the plain ledger does. Tells how many rows the answers have.
-pub fn assert_answers<V: Asked, B: Allocator>(
+pub fn assert_answers<A: Allocator, N: Naming, B: Allocator>(
     rt: &(impl Abort + AllocGlobal),
-    version: &V,
+    version: &Version<A, N>,
     plain: &PlainLedger<Global>,
     questions: &[Command<B>],
 ) -> usize {

@@ -2,31 +2,36 @@
 ghost use Rattle.tf_acceptance.specs.Rest.{IsAtRest};
 
 use super::merges::merge_all;
-use super::published::{Figures, Published};
+use super::publishing::{Sealing, run_on_forest};
 use super::stays::batch;
-use crate::answers::run;
 use crate::dice::Dice;
 use crate::random;
-use std::alloc::Global;
+use std::alloc::{Allocator, Global};
 use std::process::Abort;
 use std::sync::Wait;
 use std::test::Fail;
 use tf_manifest::Row;
 use tf_records::{Refusal, Transfer};
+use tf_registry::Naming;
+use tf_rows::SealRows;
 use tf_script::Command;
 
 /// No row of a forest has more than 64 tables, and what was counted is within its bounds.
-fn assert_bounds<T: Published>(rt: &impl Abort, forest: &T) {
+fn assert_bounds<F: SealRows<A> + Drop, A: Allocator + Copy, N: Naming>(
+    rt: &impl Abort,
+    forest: &Sealing<F, A, N>,
+) {
+    let manifest = forest.rows().published.manifest();
     let mut references: u64 = 0;
     for row in Row::ALL {
-        let count = forest.references(row);
+        let count = manifest.references(row);
         assert!(rt; count <= 64);
         references = references.wrapping_add(u64::from(count));
     }
-    let figures = forest.figures();
-    let pushed = u64::from(figures.pushed);
-    assert!(rt; references.wrapping_add(pushed) <= figures.publishes.wrapping_mul(42));
-    assert!(rt; figures.rows_held <= figures.rows_sealed.wrapping_mul(21));
+    let counts = forest.counts();
+    let pushed = u64::from(manifest.pushed());
+    assert!(rt; references.wrapping_add(pushed) <= counts.publishes.wrapping_mul(42));
+    assert!(rt; counts.rows_held <= counts.rows_sealed.wrapping_mul(21));
 }
 
 /// A batch of one transfer, which isn't pending, to an account with history.
@@ -42,31 +47,31 @@ fn one_transfer(alloc: Global) -> Result<Command<Global>, Refusal> {
 }
 
 /// Stores a transfer with this id in a batch of its own, and publishes it.
-fn publish_one<T: Published>(
+fn publish_one<F: SealRows<A> + Drop, A: Allocator + Copy, N: Naming>(
     rt: &(impl Abort + AllocGlobal + Wait),
-    forest: &mut T,
+    forest: &mut Sealing<F, A, N>,
     dice: &mut Dice,
     id: u32,
 ) -> Result<(), Fail>
-    requires { IsAtRest (T.journal forest.old) (T.clock forest.old) (T.kept forest.old) }
-    ensures { IsAtRest (T.journal forest.new) (T.clock forest.new) (T.kept forest.new) }
+    requires { IsAtRest forest.old.journal forest.old.clock forest.old.kept }
+    ensures { IsAtRest forest.new.journal forest.new.clock forest.new.kept }
 {
     let transfer = batch(rt.alloc(), dice, id, 1)?;
-    let _reply = run(rt.alloc(), forest, &transfer);
+    let _reply = run_on_forest(rt.alloc(), forest, &transfer);
     forest.publish(rt)?;
     assert_bounds(rt, forest);
     Ok(())
 }
 
 /// Merges all rows after each tenth batch. Tells how many merges there were.
-fn merge_after<T: Published>(
+fn merge_after<F: SealRows<A> + Drop, A: Allocator + Copy, N: Naming>(
     rt: &(impl Abort + Wait),
-    alloc: Global,
-    forest: &mut T,
+    alloc: A,
+    forest: &mut Sealing<F, A, N>,
     id: u32,
 ) -> Result<u32, Fail>
-    requires { IsAtRest (T.journal forest.old) (T.clock forest.old) (T.kept forest.old) }
-    ensures { IsAtRest (T.journal forest.new) (T.clock forest.new) (T.kept forest.new) }
+    requires { IsAtRest forest.old.journal forest.old.clock forest.old.kept }
+    ensures { IsAtRest forest.new.journal forest.new.clock forest.new.kept }
 {
     if id % 10 != 0 {
         return Ok(0);
@@ -77,83 +82,104 @@ fn merge_after<T: Published>(
 }
 
 /// A thousand batches of one transfer, each published, with all rows merged after each tenth.
-pub fn assert_bounds_kept<T: Published>(
+pub fn assert_bounds_kept<F: SealRows<A> + Drop, A: Allocator + Copy, N: Naming>(
     rt: &(impl Abort + AllocGlobal + Wait),
-    alloc: Global,
-    forest: &mut T,
+    alloc: A,
+    forest: &mut Sealing<F, A, N>,
 ) -> Result<(), Fail>
-    requires { IsAtRest (T.journal forest.old) (T.clock forest.old) (T.kept forest.old) }
+    requires { IsAtRest forest.old.journal forest.old.clock forest.old.kept }
 {
     let mut dice = Dice::new(17);
-    let _accounts = run(rt.alloc(), forest, &random::first_accounts(rt.alloc())?);
+    let _accounts = run_on_forest(rt.alloc(), forest, &random::first_accounts(rt.alloc())?);
     let mut merges: u32 = 0;
     for id in 1..1001u32 {
         publish_one(rt, forest, &mut dice, id)?;
         merges = merges.wrapping_add(merge_after(rt, alloc, forest, id)?);
     }
     assert!(rt; merges > 10_000);
-    assert!(rt; forest.figures().publishes == 1000);
+    assert!(rt; forest.counts().publishes == 1000);
     Ok(())
 }
 
-/// Nothing was published.
-fn are_of_nothing(figures: Figures, tables_of_transfers: u32) -> bool {
-    figures.pushed == 0
-        && figures.publishes == 0
-        && figures.rows_sealed == 0
-        && tables_of_transfers == 0
+/// What a forest counted, and how many tables its transfers are in.
+#[derive(Clone, Copy)]
+struct Figures {
+    pushed: u32,
+    publishes: u64,
+    rows_sealed: u128,
+    rows_held: u128,
+    tables_of_transfers: u32,
 }
 
-/// All 18 tables were published at once, and none was merged.
-fn are_of_one_publish(figures: Figures, tables_of_transfers: u32) -> bool {
-    figures.pushed == 18
-        && figures.publishes == 1
-        && figures.rows_held == figures.rows_sealed
-        && tables_of_transfers == 1
+impl Figures {
+    fn of<F: SealRows<A> + Drop, A: Allocator + Copy, N: Naming>(
+        forest: &Sealing<F, A, N>,
+    ) -> Figures {
+        let manifest = forest.rows().published.manifest();
+        let counts = forest.counts();
+        Figures {
+            pushed: manifest.pushed(),
+            publishes: counts.publishes,
+            rows_sealed: counts.rows_sealed,
+            rows_held: counts.rows_held,
+            tables_of_transfers: manifest.references(Row::TransferObjects),
+        }
+    }
+
+    /// Nothing was published.
+    fn are_of_nothing(self) -> bool {
+        self.pushed == 0
+            && self.publishes == 0
+            && self.rows_sealed == 0
+            && self.tables_of_transfers == 0
+    }
+
+    /// All 18 tables were published at once, and none was merged.
+    fn are_of_one_publish(self) -> bool {
+        self.pushed == 18
+            && self.publishes == 1
+            && self.rows_held == self.rows_sealed
+            && self.tables_of_transfers == 1
+    }
 }
 
 /// Whether a publish of 18 tables went as it has to under this limit, by its answer and what was counted.
-fn is_kept(
-    limit: u32,
-    answer: Result<(), Refusal>,
-    figures: Figures,
-    tables_of_transfers: u32,
-) -> bool {
+fn is_kept(limit: u32, answer: Result<(), Refusal>, figures: Figures) -> bool {
     match answer {
-        Ok(()) => limit >= 18 && are_of_one_publish(figures, tables_of_transfers),
+        Ok(()) => limit >= 18 && figures.are_of_one_publish(),
         Err(refusal) => {
-            limit < 18
-                && refusal == Refusal::RegistryFull
-                && are_of_nothing(figures, tables_of_transfers)
+            limit < 18 && refusal == Refusal::RegistryFull && figures.are_of_nothing()
         }
     }
 }
 
 /// Stores the accounts and a transfer of one with history.
-fn store_one<T: Published>(rt: &impl AllocGlobal, forest: &mut T) -> Result<(), Refusal>
-    requires { IsAtRest (T.journal forest.old) (T.clock forest.old) (T.kept forest.old) }
-    ensures { IsAtRest (T.journal forest.new) (T.clock forest.new) (T.kept forest.new) }
+fn store_one<F: SealRows<A> + Drop, A: Allocator + Copy, N: Naming>(
+    rt: &impl AllocGlobal,
+    forest: &mut Sealing<F, A, N>,
+) -> Result<(), Refusal>
+    requires { IsAtRest forest.old.journal forest.old.clock forest.old.kept }
+    ensures { IsAtRest forest.new.journal forest.new.clock forest.new.kept }
 {
     let accounts = random::first_accounts(rt.alloc())?;
     let transfer = one_transfer(rt.alloc())?;
-    let _accounts = run(rt.alloc(), forest, &accounts);
-    let _transfer = run(rt.alloc(), forest, &transfer);
+    let _accounts = run_on_forest(rt.alloc(), forest, &accounts);
+    let _transfer = run_on_forest(rt.alloc(), forest, &transfer);
     Ok(())
 }
 
 /// Accounts and a transfer of one with history, which need 18 tables, are published under a limit of 18. Under 17 the
 /// registry is full, and nothing has changed.
-pub fn assert_limit_holds<T: Published>(
+pub fn assert_limit_holds<F: SealRows<A> + Drop, A: Allocator + Copy, N: Naming>(
     rt: &(impl Abort + AllocGlobal + Wait),
-    forest: &mut T,
+    forest: &mut Sealing<F, A, N>,
     limit: u32,
 ) -> Result<(), Fail>
-    requires { IsAtRest (T.journal forest.old) (T.clock forest.old) (T.kept forest.old) }
+    requires { IsAtRest forest.old.journal forest.old.clock forest.old.kept }
 {
     store_one(rt, forest)?;
     let answer = forest.publish(rt);
-    let tables = forest.references(Row::TransferObjects);
-    assert!(rt; is_kept(limit, answer, forest.figures(), tables));
+    assert!(rt; is_kept(limit, answer, Figures::of(forest)));
     assert!(rt; forest.transfer(1).is_some());
     Ok(())
 }

@@ -1,13 +1,12 @@
 //! Many filters that are answered at once.
 ghost use Rattle.tf_acceptance.specs.Rest.{IsAtRest};
 
-use super::asking::{Asked, ask_plain, is_same};
+use super::asking::{ask, ask_plain, has_same_rows, is_same};
 use super::filters::any_query;
-use super::published::{Published, Sealing};
-use super::publishing::run_published;
+use super::publishing::{Sealing, publish, run_published};
 use crate::dice::Dice;
 use crate::random;
-use std::alloc::Global;
+use std::alloc::{Allocator, Global};
 use std::marker::{Send, Sync};
 use std::process::Abort;
 use std::sync::Wait;
@@ -46,18 +45,22 @@ fn queries(
 }
 
 /// A version answers all these queries at once as one by one, and as the plain ledger does.
-fn assert_all_answered<N: Naming + Send + Sync>(
+fn assert_all_answered<A, N>(
     rt: &(impl Abort + AllocGlobal + Threads + Sync),
-    version: &Version<Global, N>,
+    version: &Version<A, N>,
     plain: &PlainLedger<Global>,
     queries: &[Query],
-) -> Result<(), Fail> {
+) -> Result<(), Fail>
+where
+    A: Allocator + Send + Sync,
+    N: Naming + Send + Sync,
+{
     let filters: Vec<Filter> = queries.iter().map(filter_of).collect(rt.alloc())?;
     let answers = query_all(rt, rt.alloc(), version, filters.as_slice())?;
     assert!(rt; answers.len() == queries.len());
     for (query, answer) in queries.iter().zip(answers) {
         let question = Command::<Global>::Query(*query);
-        let alone = version.ask(rt.alloc(), &question);
+        let alone = ask(rt.alloc(), version, &question);
         let together = Ok(Some(answer));
         assert!(rt; is_same(&alone, &together));
         assert!(rt; is_same(&alone, &ask_plain(rt.alloc(), plain, &question)));
@@ -66,17 +69,21 @@ fn assert_all_answered<N: Naming + Send + Sync>(
 }
 
 /// A version of a random journal answers 4,096 random filters at once as one by one, and none as well.
-pub fn assert_many_answered<F: SealRows<Global> + Drop, N: Naming + Send + Sync>(
+pub fn assert_many_answered<F, A, N>(
     rt: &(impl Abort + AllocGlobal + Wait + Threads + Sync),
-    alloc: Global,
-    forest: &mut Sealing<F, N>,
+    alloc: A,
+    forest: &mut Sealing<F, A, N>,
 ) -> Result<(), Fail>
+where
+    F: SealRows<A> + Drop,
+    A: Allocator + Copy + Send + Sync,
+    N: Naming + Send + Sync,
     requires { IsAtRest forest.old.journal forest.old.clock forest.old.kept }
 {
     let mut plain = PlainLedger::new(rt.alloc());
     let commands = random::commands(rt.alloc(), 4096, 60)?;
     run_published(rt, alloc, &mut plain, forest, commands.as_slice())?;
-    let version = forest.version(rt, alloc)?;
+    let version = publish(rt, alloc, forest)?;
     let asked = queries(rt.alloc(), &plain, 4096)?;
     assert_all_answered(rt, &version, &plain, asked.as_slice())?;
     assert_all_answered(rt, &version, &plain, &[])

@@ -1,27 +1,69 @@
 //! Merges of a forest's sealed tables.
 ghost use Rattle.tf_acceptance.specs.Rest.{IsAtRest};
 
-use super::published::Published;
+use super::publishing::Sealing;
 use crate::dice::Dice;
-use std::alloc::Global;
+use crate::outcomes::{NoJob, found, is_installed};
+use std::alloc::{Allocator, Global};
 use std::sync::Wait;
 use std::test::Fail;
-use tf_manifest::Row;
+use tf_manifest::{Merged, Row};
 use tf_records::Refusal;
+use tf_registry::Naming;
+use tf_rows::SealRows;
+
+/// Merges the next run of a row, and puts it in its place. It tells whether there was one.
+fn merge_next<F: SealRows<A> + Drop, A: Allocator + Copy, N: Naming>(
+    rt: &impl Wait,
+    alloc: A,
+    forest: &mut Sealing<F, A, N>,
+    row: Row,
+) -> Result<bool, Fail>
+    requires { IsAtRest forest.old.journal forest.old.clock forest.old.kept }
+    ensures { IsAtRest forest.new.journal forest.new.clock forest.new.kept }
+{
+    let job = match found(forest.pick(row)) {
+        Ok(job) => job,
+        Err(NoJob::NoRun) => return Ok(false),
+        Err(NoJob::NoMemory) => return Err(Fail::new("no memory for a job")),
+    };
+    let merged = job.merge(alloc);
+    drop(job);
+    match merged {
+        Ok(merged) => install(rt, forest, merged),
+        Err(_) => Err(Fail::new("no memory for a merge")),
+    }
+}
+
+/// Puts a merged table in the place of its run.
+fn install<F: SealRows<A> + Drop, A: Allocator + Copy, N: Naming>(
+    rt: &impl Wait,
+    forest: &mut Sealing<F, A, N>,
+    merged: Merged<A, N>,
+) -> Result<bool, Fail>
+    requires { IsAtRest forest.old.journal forest.old.clock forest.old.kept }
+    ensures { IsAtRest forest.new.journal forest.new.clock forest.new.kept }
+{
+    if is_installed(forest.install(rt, merged)) {
+        Ok(true)
+    } else {
+        Err(Fail::new("a merged table wasn't installed"))
+    }
+}
 
 /// Merges the next run of each of these rows, in their order. Tells how many had one.
-pub fn merge_each<T: Published>(
+pub fn merge_each<F: SealRows<A> + Drop, A: Allocator + Copy, N: Naming>(
     rt: &impl Wait,
-    alloc: Global,
-    forest: &mut T,
+    alloc: A,
+    forest: &mut Sealing<F, A, N>,
     rows: &[Row],
 ) -> Result<u32, Fail>
-    requires { IsAtRest (T.journal forest.old) (T.clock forest.old) (T.kept forest.old) }
-    ensures { IsAtRest (T.journal forest.new) (T.clock forest.new) (T.kept forest.new) }
+    requires { IsAtRest forest.old.journal forest.old.clock forest.old.kept }
+    ensures { IsAtRest forest.new.journal forest.new.clock forest.new.kept }
 {
     let mut merges: u32 = 0;
     for row in rows {
-        if forest.merge_next(rt, alloc, *row)? {
+        if merge_next(rt, alloc, forest, *row)? {
             merges = merges.wrapping_add(1);
         }
     }
@@ -29,9 +71,13 @@ pub fn merge_each<T: Published>(
 }
 
 /// Merges the runs of all rows until none has one. Tells how many there were.
-pub fn merge_all<T: Published>(rt: &impl Wait, alloc: Global, forest: &mut T) -> Result<u32, Fail>
-    requires { IsAtRest (T.journal forest.old) (T.clock forest.old) (T.kept forest.old) }
-    ensures { IsAtRest (T.journal forest.new) (T.clock forest.new) (T.kept forest.new) }
+pub fn merge_all<F: SealRows<A> + Drop, A: Allocator + Copy, N: Naming>(
+    rt: &impl Wait,
+    alloc: A,
+    forest: &mut Sealing<F, A, N>,
+) -> Result<u32, Fail>
+    requires { IsAtRest forest.old.journal forest.old.clock forest.old.kept }
+    ensures { IsAtRest forest.new.journal forest.new.clock forest.new.kept }
 {
     let mut merges: u32 = 0;
     for _ in 0..1000u32 {

@@ -1,17 +1,19 @@
 //! Answers about as long as the parts, of 256 timestamps, in which queries read a scan.
 ghost use Rattle.tf_acceptance.specs.Rest.{IsAtRest};
 
-use super::asking::{Asked, assert_answer};
-use super::published::Published;
-use super::publishing::run_published;
+use super::asking::assert_answer;
+use super::publishing::{Sealing, publish, run_published};
 use crate::dice::Dice;
 use crate::random;
-use std::alloc::Global;
+use std::alloc::{Allocator, Global};
 use std::process::Abort;
 use std::sync::Wait;
 use std::test::Fail;
 use tf_journal::PlainLedger;
+use tf_query::Version;
 use tf_records::{AccountFilter, QueryFilter, Refusal, Transfer};
+use tf_registry::Naming;
+use tf_rows::SealRows;
 use tf_script::{Command, Query};
 
 /// Limits beside the ends of parts, and above all rows.
@@ -110,9 +112,9 @@ fn of_all(span: Span, code: u16) -> QueryFilter {
 }
 
 /// A union, the same with balances, all records and a field alone: as many rows each.
-fn assert_span_answered<V: Asked>(
+fn assert_span_answered<A: Allocator, N: Naming>(
     rt: &(impl Abort + AllocGlobal),
-    version: &V,
+    version: &Version<A, N>,
     plain: &PlainLedger<Global>,
     span: Span,
 ) {
@@ -130,9 +132,9 @@ fn assert_span_answered<V: Asked>(
 }
 
 /// A version answers queries with each limit between two transfers, in both directions, as the plain ledger does.
-fn assert_limits_answered<V: Asked>(
+fn assert_limits_answered<A: Allocator, N: Naming>(
     rt: &(impl Abort + AllocGlobal),
-    version: &V,
+    version: &Version<A, N>,
     plain: &PlainLedger<Global>,
     low: u64,
     high: u64,
@@ -151,17 +153,17 @@ fn assert_limits_answered<V: Asked>(
 }
 
 /// A version of 800 transfers in four tables answers queries of about as many rows as a part has as the plain ledger does.
-pub fn assert_parts_answered<T: Published>(
+pub fn assert_parts_answered<F: SealRows<A> + Drop, A: Allocator + Copy, N: Naming>(
     rt: &(impl Abort + AllocGlobal + Wait),
-    alloc: Global,
-    forest: &mut T,
+    alloc: A,
+    forest: &mut Sealing<F, A, N>,
 ) -> Result<(), Fail>
-    requires { IsAtRest (T.journal forest.old) (T.clock forest.old) (T.kept forest.old) }
+    requires { IsAtRest forest.old.journal forest.old.clock forest.old.kept }
 {
     let mut plain = PlainLedger::new(rt.alloc());
     let commands = commands(rt.alloc())?;
     run_published(rt, alloc, &mut plain, forest, commands.as_slice())?;
-    let version = forest.version(rt, alloc)?;
+    let version = publish(rt, alloc, forest)?;
     for (first, last) in BOUNDS {
         let low = moment(&plain, first);
         let high = moment(&plain, last);

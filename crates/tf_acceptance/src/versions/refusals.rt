@@ -1,18 +1,20 @@
 //! Requests for memory that are refused to queries and look-ups, each in turn.
 ghost use Rattle.tf_acceptance.specs.Rest.{IsAtRest};
 
-use super::asking::{Asked, ask_plain, count_of, is_same};
-use super::published::Published;
-use super::publishing::run_published;
+use super::asking::{ask, ask_plain, count_of, is_same};
+use super::publishing::{Sealing, publish, run_published};
 use crate::memory::{AMPLE, all_but};
 use crate::random;
 use linked_list_allocator::LocalHeap;
-use std::alloc::{AllocError, Global};
+use std::alloc::{AllocError, Allocator, Global};
 use std::process::Abort;
 use std::sync::Wait;
 use std::test::Fail;
 use tf_journal::PlainLedger;
+use tf_query::Version;
 use tf_records::{AccountFilter, QueryFilter, Refusal};
+use tf_registry::Naming;
+use tf_rows::SealRows;
 use tf_script::{Command, Query};
 
 /// A filter of the transfers of an account with history, on both sides and by two fields.
@@ -105,9 +107,9 @@ fn look_up_cases(alloc: Global) -> Result<[Case; 6], AllocError> {
 
 /// Asks a version with hardly any memory at first and then more and more, until it isn't refused any more. It answers as
 /// the plain ledger does then, and with memory after each refusal. Tells how often it was refused.
-fn refusals<V: Asked>(
+fn refusals<A: Allocator, N: Naming>(
     rt: &(impl Abort + AllocGlobal),
-    version: &V,
+    version: &Version<A, N>,
     plain: &PlainLedger<Global>,
     question: &Command<Global>,
     step: usize,
@@ -116,21 +118,21 @@ fn refusals<V: Asked>(
     let expected = ask_plain(rt.alloc(), plain, question);
     for refused in 0..AMPLE / 16 {
         let taken = all_but(rt.alloc(), &heap, refused.saturating_mul(step))?;
-        let outcome = version.ask(&heap, question);
+        let outcome = ask(&heap, version, question);
         drop(taken);
         if !matches!(outcome, Err(Refusal::NoMemory)) {
             assert!(rt; is_same(&outcome, &expected));
             return Ok(refused);
         }
-        assert!(rt; is_same(&version.ask(rt.alloc(), question), &expected));
+        assert!(rt; is_same(&ask(rt.alloc(), version, question), &expected));
     }
     Err(Fail::new("refused with ample memory"))
 }
 
 /// Each case is refused in turn where it takes memory, and else never.
-fn assert_cases<V: Asked>(
+fn assert_cases<A: Allocator, N: Naming>(
     rt: &(impl Abort + AllocGlobal),
-    version: &V,
+    version: &Version<A, N>,
     plain: &PlainLedger<Global>,
     cases: &[Case],
 ) -> Result<(), Fail> {
@@ -144,17 +146,17 @@ fn assert_cases<V: Asked>(
 }
 
 /// A version of a random journal is refused memory in turn for each query and look-up.
-pub fn assert_refused_in_turn<T: Published>(
+pub fn assert_refused_in_turn<F: SealRows<A> + Drop, A: Allocator + Copy, N: Naming>(
     rt: &(impl Abort + AllocGlobal + Wait),
-    alloc: Global,
-    forest: &mut T,
+    alloc: A,
+    forest: &mut Sealing<F, A, N>,
 ) -> Result<(), Fail>
-    requires { IsAtRest (T.journal forest.old) (T.clock forest.old) (T.kept forest.old) }
+    requires { IsAtRest forest.old.journal forest.old.clock forest.old.kept }
 {
     let mut plain = PlainLedger::new(rt.alloc());
     let commands = random::commands(rt.alloc(), 5, 30)?;
     run_published(rt, alloc, &mut plain, forest, commands.as_slice())?;
-    let version = forest.version(rt, alloc)?;
+    let version = publish(rt, alloc, forest)?;
     assert_cases(rt, &version, &plain, &query_cases())?;
     assert_cases(rt, &version, &plain, &look_up_cases(rt.alloc())?)
 }

@@ -1,24 +1,25 @@
 //! Worked scripts, whose queries and look-ups versions answer.
 ghost use Rattle.tf_acceptance.specs.Rest.{IsAtRest};
 
-use super::published::Published;
-use super::publishing::run_published;
+use super::publishing::{Sealing, run_published};
 use crate::worked::WORKED;
-use std::alloc::Global;
+use std::alloc::Allocator;
 use std::process::Abort;
 use std::sync::Wait;
 use std::test::Fail;
 use tf_journal::PlainLedger;
+use tf_registry::Naming;
+use tf_rows::SealRows;
 use tf_script::parse;
 
 /// A version answers each query and look-up of a script as the plain ledger does.
-pub fn assert_script_answered<T: Published>(
+pub fn assert_script_answered<F: SealRows<A> + Drop, A: Allocator + Copy, N: Naming>(
     rt: &(impl Abort + AllocGlobal + Wait),
-    alloc: Global,
-    forest: &mut T,
+    alloc: A,
+    forest: &mut Sealing<F, A, N>,
     place: usize,
 ) -> Result<(), Fail>
-    requires { IsAtRest (T.journal forest.old) (T.clock forest.old) (T.kept forest.old) }
+    requires { IsAtRest forest.old.journal forest.old.clock forest.old.kept }
 {
     let script = WORKED.get(place).ok_or("no script")?;
     let commands = parse(rt.alloc(), script.as_bytes())?;

@@ -4,17 +4,18 @@ ghost use Rattle.tf_acceptance.specs.Rest.{IsAtRest};
 use super::asking::assert_answers;
 use super::filters::questions;
 use super::merges::merge_all;
-use super::published::Published;
-use super::publishing::run_published;
+use super::publishing::{Sealing, publish, run_published};
 use crate::answers::run;
 use crate::dice::Dice;
 use crate::random;
-use std::alloc::Global;
+use std::alloc::{Allocator, Global};
 use std::process::Abort;
 use std::sync::Wait;
 use std::test::Fail;
 use tf_journal::PlainLedger;
 use tf_records::{Refusal, Transfer};
+use tf_registry::Naming;
+use tf_rows::SealRows;
 use tf_script::Command;
 
 /// A batch of transfers between accounts without limits, with so many ids from the first on, all of which are stored.
@@ -49,12 +50,12 @@ fn further_batches(alloc: Global, dice: &mut Dice) -> Result<[Command<Global>; 4
 
 /// A version that was taken after the first transfer answers as the plain ledger did then, once four batches more were
 /// published and all rows were merged.
-pub fn assert_version_stays<T: Published>(
+pub fn assert_version_stays<F: SealRows<A> + Drop, A: Allocator + Copy, N: Naming>(
     rt: &(impl Abort + AllocGlobal + Wait),
-    alloc: Global,
-    forest: &mut T,
+    alloc: A,
+    forest: &mut Sealing<F, A, N>,
 ) -> Result<(), Fail>
-    requires { IsAtRest (T.journal forest.old) (T.clock forest.old) (T.kept forest.old) }
+    requires { IsAtRest forest.old.journal forest.old.clock forest.old.kept }
 {
     let mut dice = Dice::new(1000);
     let first = [
@@ -66,7 +67,7 @@ pub fn assert_version_stays<T: Published>(
     let _transfer = run(rt.alloc(), &mut then, &first[1]);
     let mut now = PlainLedger::new(rt.alloc());
     run_published(rt, alloc, &mut now, forest, &first)?;
-    let version = forest.version(rt, alloc)?;
+    let version = publish(rt, alloc, forest)?;
     run_published(
         rt,
         alloc,
@@ -78,7 +79,7 @@ pub fn assert_version_stays<T: Published>(
     assert!(rt; merges >= 10);
     let asked = questions(rt.alloc(), &mut dice, &now, 400)?;
     let rows = assert_answers(rt, &version, &then, asked.as_slice());
-    let later = assert_answers(rt, &forest.version(rt, alloc)?, &now, asked.as_slice());
+    let later = assert_answers(rt, &publish(rt, alloc, forest)?, &now, asked.as_slice());
     assert!(rt; rows > 100 && later > 1000);
     Ok(())
 }

@@ -4,4 +4,4 @@ use Rattle.tf_acceptance.proofs.versions.journals.assert_journal_answered.Given 
 
 abbrev pub invariant-loop-some : goal.invariant-loop-some
 invariant-loop-some g l =
-    IsLawfulAt l.plain.clock l.plain.entries.items × IsAtRest (g.T.Ledger.journal l.forest) (g.T.Ledger.clock l.forest) (g.T.Ledger.kept l.forest)
+    IsLawfulAt l.plain.clock l.plain.entries.items × IsAtRest l.forest.journal l.forest.clock l.forest.kept

@@ -4,4 +4,4 @@ use Rattle.tf_acceptance.proofs.versions.publishing.run_published.Given as goal
 
 abbrev pub invariant-loop-command : goal.invariant-loop-command
 invariant-loop-command g l =
-    IsLawfulAt l.plain.clock l.plain.entries.items × IsAtRest (g.T.Ledger.journal l.forest) (g.T.Ledger.clock l.forest) (g.T.Ledger.kept l.forest)
+    IsLawfulAt l.plain.clock l.plain.entries.items × IsAtRest l.forest.journal l.forest.clock l.forest.kept

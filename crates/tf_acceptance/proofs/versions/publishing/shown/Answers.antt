@@ -2,7 +2,7 @@ use Rattle.std.proofs.Common.{◌≡◌, subst, sym}
 use Rattle.std.proofs.lemmas.Result.{IfOk-weaker}
 use Rattle.tf_query.specs.Version.{ShowsLawfulJournal}
 use Rattle.tf_acceptance.proofs.Shown.{shows_lawful}
-use Rattle.tf_acceptance.proofs.versions.published.shown.Goals as goal
+use Rattle.tf_acceptance.proofs.versions.publishing.shown.Goals as goal
 
 pub returns : goal.returns
 returns g c =
