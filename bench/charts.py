@@ -130,9 +130,11 @@ def readers_panel():
     groups = []
     for what, ratio in (("queries a second", "ratio"), ("transfers a second", "ratio 2")):
         for row in section.rows:
-            wanted = sharing.QUERIES.get(int(row["readers"])) if ratio == "ratio" else None
-            groups.append(Group(what, row["readers"], [number(row[ratio])], wanted))
-    return Panel("A ledger with readers beside its writer; plain Rust's lies under a lock", section.made(section.rows), groups, "readers")
+            of = int(row["clients"]), int(row["readers"])
+            wanted = {sharing.SHARED[name]: times for name, times in sharing.QUERIES.items()}.get(of) if ratio == "ratio" else None
+            groups.append(Group(what, f"{of[0]} + {of[1]}", [number(row[ratio])], wanted))
+    title = "A ledger under a lock, which plain Rust's readers take too and ours don't"
+    return Panel(title, section.made(section.rows), groups, "clients + readers")
 
 
 def script_panel():

@@ -62,10 +62,15 @@ pub struct Transfers {
 
 impl Transfers {
     pub fn new(seed: u64, ids: Ids) -> Self {
+        Transfers::after(seed, ids, 0)
+    }
+
+    /// Where ids rise, they follow this one.
+    pub fn after(seed: u64, ids: Ids, id: u64) -> Self {
         Transfers {
             numbers: Generator::new(seed),
             ids,
-            made: 0,
+            made: id,
         }
     }
 

@@ -30,7 +30,7 @@ pub struct Measured {
     pub nanoseconds: u128,
     /// How long that round or batch took that took longest, or all of it, where there are none.
     pub worst: u128,
-    /// Beside readers, from the writer's start to its end, for how long it held the lock at most, and how many queries they made.
+    /// Beside readers, from the clients' start to their end, for how long they held the lock at most, and how many queries were made.
     pub wall: u128,
     pub held: u128,
     pub queries: u64,

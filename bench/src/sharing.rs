@@ -1,4 +1,4 @@
-//! A ledger under a lock, which one thread writes and others read at the same time.
+//! A ledger under a lock, which some threads write and others read at the same time.
 
 use crate::batches::{accounts_sum, batch_lengths};
 use crate::events::{accounts, Ids, Transfers, ACCOUNTS};
@@ -11,45 +11,74 @@ use std::sync::Mutex;
 use std::thread;
 use std::time::Instant;
 
-/// How often each reader asks at the end, once the writer is done.
+/// How often each reader asks at the end, once the clients are done.
 const LAST: u64 = 1_000;
 
-/// Stores transfers in batches of the greatest length, while so many readers ask for transfers of accounts.
-pub fn share(run: Run, readers: u64) -> Measured {
+/// So many clients store transfers in batches of the greatest length, while so many readers ask for transfers of accounts.
+pub fn share(run: Run, clients: u64, readers: u64) -> Measured {
     let mut ledger = Ledger::default();
     for events in accounts().chunks(BATCH_MAX) {
         let reply = ledger.create_accounts(events, 0);
         assert_eq!(reply, Ok(Vec::new()), "all accounts are stored");
     }
     let locked = Mutex::new(ledger);
-    let done = AtomicBool::new(false);
-    let (shared, is_done) = (&locked, &done);
-    let mut measured = thread::scope(|scope| {
-        let seeds = (0..readers).map(|place| mixed(run.seed, place));
-        let readers: Vec<_> = seeds
-            .map(|seed| scope.spawn(move || ask_on(shared, seed, is_done)))
-            .collect();
-        let mut measured = write(&locked, run);
-        done.store(true, Ordering::SeqCst);
-        let asked = readers.into_iter().map(|reader| reader.join());
-        measured.queries = asked.map(|queries| queries.expect("a reader ends")).sum();
-        measured
-    });
+    let mut measured = at_once(&locked, run, clients, readers);
     let ledger = locked.lock().expect("no thread panics");
     measured.checksum = accounts_sum(&ledger, measured.checksum);
     drop(ledger);
-    for _ in 0..readers {
-        measured.checksum = mixed(measured.checksum, last(&locked, run.seed));
+    // with several clients the transfers have another order in each run
+    if clients == 1 {
+        for _ in 0..readers {
+            measured.checksum = mixed(measured.checksum, last(&locked, run.seed));
+        }
     }
     measured
 }
 
-/// Stores all transfers. In the checksum's place is how many failed.
-fn write(locked: &Mutex<Ledger>, run: Run) -> Measured {
+/// Stores and asks until all is stored. In the checksum's place is how many transfers failed.
+fn at_once(locked: &Mutex<Ledger>, run: Run, clients: u64, readers: u64) -> Measured {
+    let done = AtomicBool::new(false);
+    let is_done = &done;
+    let count = run.count / clients;
+    thread::scope(|scope| {
+        let seeds = (0..readers).map(|place| mixed(run.seed, place));
+        let readers: Vec<_> = seeds
+            .map(|seed| scope.spawn(move || ask_on(locked, seed, is_done)))
+            .collect();
+        let clients: Vec<_> = (0..clients)
+            .map(|place| {
+                let seed = run.seed + place;
+                let transfers = Transfers::after(seed, Ids::Rising, place * count);
+                scope.spawn(move || write(locked, transfers, count))
+            })
+            .collect();
+        let wrote = clients.into_iter().map(|client| client.join());
+        let wrote = wrote.map(|measured| measured.expect("a client ends"));
+        let mut measured = wrote.reduce(slowest).expect("there is a client");
+        done.store(true, Ordering::SeqCst);
+        let asked = readers.into_iter().map(|reader| reader.join());
+        measured.queries = asked.map(|queries| queries.expect("a reader ends")).sum();
+        measured
+    })
+}
+
+/// The times of the slower of two clients, and how many transfers of both failed.
+fn slowest(one: Measured, other: Measured) -> Measured {
+    Measured {
+        checksum: one.checksum + other.checksum,
+        nanoseconds: one.nanoseconds.max(other.nanoseconds),
+        worst: one.worst.max(other.worst),
+        wall: one.wall.max(other.wall),
+        held: one.held.max(other.held),
+        queries: 0,
+    }
+}
+
+/// Stores so many transfers. In the checksum's place is how many failed.
+fn write(locked: &Mutex<Ledger>, mut transfers: Transfers, count: u64) -> Measured {
     let mut measured = Measured::default();
-    let mut transfers = Transfers::new(run.seed, Ids::Rising);
     let began = Instant::now();
-    for len in batch_lengths(run.count, BATCH_MAX as u64) {
+    for len in batch_lengths(count, BATCH_MAX as u64) {
         let events = transfers.batch(len);
         let start = Instant::now();
         let mut ledger = locked.lock().expect("no thread panics");
@@ -66,7 +95,7 @@ fn write(locked: &Mutex<Ledger>, run: Run) -> Measured {
     measured
 }
 
-/// Asks for the first transfers of one account after another until the writer is done. Tells how often.
+/// Asks for the first transfers of one account after another until the clients are done. Tells how often.
 fn ask_on(locked: &Mutex<Ledger>, seed: u64, done: &AtomicBool) -> u64 {
     let mut numbers = Generator::new(seed);
     let mut queries = 0;

@@ -91,9 +91,15 @@ fn queries_find_rows() {
 
 #[test]
 fn what_is_stored_beside_readers_is_an_ingest() {
-    assert_same(sharing::share(RUN, 0), ingest::ingest(RUN, Ids::Rising));
-    let shared = sharing::share(RUN, 2);
-    assert_same(sharing::share(RUN, 2), shared);
+    assert_same(sharing::share(RUN, 1, 0), ingest::ingest(RUN, Ids::Rising));
+    let shared = sharing::share(RUN, 1, 2);
+    assert_same(sharing::share(RUN, 1, 2), shared);
+}
+
+#[test]
+fn what_clients_store_together_is_the_same_each_time() {
+    let shared = sharing::share(RUN, 4, 0);
+    assert_same(sharing::share(RUN, 4, 3), shared);
 }
 
 #[test]

@@ -1,6 +1,6 @@
 //! The workloads of `tf_ledger_bench` over the ledger that is written by hand in plain Rust, by the same words:
 //! `ledger WORKLOAD COUNT SEED` prints the checksum, and nanoseconds: in all, and of the batch that took longest; beside
-//! readers also from the writer's start to its end, and for which it held the lock at most, and how many queries they made.
+//! readers also from the clients' start to their end, and for which they held the lock at most, and how many queries were made.
 //! Without arguments the program lists its workloads.
 //!
 //! There are 10,000 accounts, and COUNT transfers between them, which have all searched fields. Batches have 8,190
@@ -15,7 +15,7 @@ use std::process::ExitCode;
 
 type Workload = fn(Run) -> Measured;
 
-const WORKLOADS: [(&str, Workload); 21] = [
+const WORKLOADS: [(&str, Workload); 22] = [
     ("ingest_rising", |run| ingest::ingest(run, Ids::Rising)),
     ("ingest_random", |run| ingest::ingest(run, Ids::Random)),
     ("ingest_small", ingest::ingest_small),
@@ -49,9 +49,10 @@ const WORKLOADS: [(&str, Workload); 21] = [
     ("look_up_strewn", |run| {
         queries::look_up(run, Ids::Random, Order::AsStored)
     }),
-    ("shared_1", |run| sharing::share(run, 1)),
-    ("shared_3", |run| sharing::share(run, 3)),
-    ("shared_16", |run| sharing::share(run, 16)),
+    ("shared_1", |run| sharing::share(run, 1, 1)),
+    ("shared_3", |run| sharing::share(run, 1, 3)),
+    ("shared_16", |run| sharing::share(run, 1, 16)),
+    ("clients_4", |run| sharing::share(run, 4, 3)),
 ];
 
 /// Runs one workload.
