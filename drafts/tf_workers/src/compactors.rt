@@ -1,0 +1,92 @@
+//! Compactors.
+ghost use Rattle.std.specs.Prelude.{◌≡◌, ◌+◌, ◌≤◌, length, false, true, IfSome, MatchResult, Ok, OnOk};
+ghost use Rattle.tf_registry.specs.Install.{IfNoMemory, OnFull, OnStale};
+
+use std::alloc::Allocator;
+use std::sync::{Mutex, Wait};
+use tf_crew::{Compacted, Gate, WantOfMemory, compactor_by};
+use tf_jobs::{JobQueue, JobSeat};
+use tf_manifest::{Job, Merged};
+use tf_records::Refusal;
+use tf_registry::Uninstalled;
+use tf_rows::MutableRows;
+use tf_store::{StoreName, StoreOf, StoredCopies};
+
+/// Whether a merged table stands in the place of its run.
+fn was_installed<M: Drop>(outcome: Result<(), Uninstalled<M>>) -> Result<bool, WantOfMemory>
+    ensures { MatchResult outcome (λ nothing. result ≡ Ok true) (λ refused. OnStale refused (result ≡ Ok false) × OnFull refused (result ≡ Ok false) × IfNoMemory refused (λ merged. OnOk result ⊥)) }
+{
+    match outcome {
+        Ok(()) => Ok(true),
+        Err(Uninstalled::NoMemory(_)) => Err(WantOfMemory),
+        Err(_) => Ok(false),
+    }
+}
+
+/// Puts a merged table in the place of its run, and tells whether it stands there.
+fn install<T, C, A, S, R>(
+    rt: &R,
+    store: &mut StoreOf<T, C, A, S>,
+    merged: Merged<A, S>,
+) -> Result<bool, WantOfMemory>
+where
+    T: MutableRows + Drop,
+    C: StoredCopies + Drop,
+    A: Allocator + Copy,
+    S: StoreName,
+    R: Wait,
+{
+    was_installed(store.install(rt, merged))
+}
+
+/// Merges a job outside the lock, and installs what it merged under it. Tells whether it stands there: a table whose run is gone is
+/// dropped, as is one that the registry has no place for.
+pub(crate) fn compact<T, C, A, S, R>(
+    rt: &R,
+    alloc: A,
+    store: &Mutex<StoreOf<T, C, A, S>>,
+    job: Job<A, S>,
+) -> Result<bool, WantOfMemory>
+where
+    T: MutableRows + Drop,
+    C: StoredCopies + Drop,
+    A: Allocator + Copy,
+    S: StoreName,
+    R: Wait,
+{
+    match job.merge(alloc) {
+        Ok(merged) => install(rt, &mut *store.lock(rt), merged),
+        Err(_) => Err(WantOfMemory),
+    }
+}
+
+/// Takes jobs from the queue, merges each outside the lock and installs it under the lock, until it read that the queue is closed
+/// and then took nothing.
+///
+/// A merged table whose run is gone is dropped, as is one that the registry has no place for. It ends early only for want of
+/// memory. It gives its seat back at every end, and installed no more than it took. It may wait for the lock, in pushes and for
+/// jobs.
+pub fn compactor<T, C, A, S, R, G>(
+    rt: &R,
+    alloc: A,
+    store: &Mutex<StoreOf<T, C, A, S>>,
+    queue: &JobQueue<Job<A, S>>,
+    seat: JobSeat<Job<A, S>>,
+    worker: u32,
+    gate: &G,
+) -> Compacted<Job<A, S>>
+where
+    T: MutableRows + Drop,
+    C: StoredCopies + Drop,
+    A: Allocator + Copy,
+    S: StoreName,
+    R: Wait,
+    G: Gate,
+    requires { seat.queue ≡ queue.now.number }
+    ensures seat { (result.seat.queue ≡ seat.queue) × (result.seat.seats ≡ seat.seats) × (result.seat.offered ≡ seat.offered) }
+    ensures installed { result.installed + length seat.taken ≤ length result.seat.taken }
+    ensures fault { IfSome result.fault (λ fault. fault ≡ Refusal.NoMemory) }
+{
+    let run = |job: Job<A, S>| compact(rt, alloc, store, job);
+    compactor_by(rt, &run, queue, seat, worker, gate)
+}
