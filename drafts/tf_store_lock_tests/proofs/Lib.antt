@@ -1,3 +1,0 @@
-mod Crossing
-mod Rows
-mod Versions
