@@ -6,7 +6,7 @@ use Rattle.tf_main.specs.Line.{line_feed}
 use Rattle.tf_main.specs.declared.fault.RunFault.{RunFault}
 use Rattle.tf_main.specs.declared.fault.RunFault.TheVariants.{NoMemory, BadLine, CannotWrite}
 use Rattle.tf_main.specs.declared.ending.Ending.{Ending}
-use Rattle.tf_main.specs.declared.ending.Ending.TheVariants.{Done, Usage, CannotRead, Fault}
+use Rattle.tf_main.specs.declared.ending.Ending.TheVariants.{Done, Usage, CannotRead, Fault, NoThread}
 
 -- the line of a script's first fault
 abbrev pub bad_line : ℕ → ℕ → List ℕ
@@ -24,6 +24,7 @@ ending_line Done = []
 ending_line Usage = codes "usage: tigerforest run SCRIPT or tigerforest storm SCRIPT.." ++ line_feed
 ending_line (CannotRead name) = concat (codes "cannot read " ∷ string_bytes name ∷ line_feed ∷ [])
 ending_line (Fault fault) = fault_line fault
+ending_line NoThread = codes "cannot start a thread" ++ line_feed
 
 -- the exit status of a run that ended early: 2 for want of memory, else 1
 abbrev pub fault_status : RunFault → ℕ
@@ -31,9 +32,10 @@ fault_status NoMemory = 2
 fault_status (BadLine line column) = 1
 fault_status (CannotWrite error) = 1
 
--- the exit status: 0 after a whole run
+-- the exit status: 0 after a whole run, 2 for want of a thread
 abbrev pub exit_status_of : Ending → ℕ
 exit_status_of Done = 0
 exit_status_of Usage = 1
 exit_status_of (CannotRead name) = 1
 exit_status_of (Fault fault) = fault_status fault
+exit_status_of NoThread = 2

@@ -129,3 +129,23 @@ pulse_lines expired clock = expired_line expired ++ clock_line clock
 -- the lines of a query: each row, then their count
 abbrev pub query_lines : {X : Type 0} → (X → List ℕ) → List X → List ℕ
 query_lines line rows = flat_map line rows ++ count_line (length rows)
+
+-- `clients N`: how many clients a storm had
+abbrev pub clients_line : ℕ → List ℕ
+clients_line count = number_line (codes "clients") count
+
+-- `stored X`: how many entries are stored at its end
+abbrev pub stored_line : ℕ → List ℕ
+stored_line count = number_line (codes "stored") count
+
+-- `shares Y`: how many entries its clients' shares count together
+abbrev pub shares_line : ℕ → List ℕ
+shares_line count = number_line (codes "shares") count
+
+-- what is stored, and what the shares count
+abbrev pub share_lines : ℕ → ℕ → List ℕ
+share_lines stored shares = stored_line stored ++ shares_line shares
+
+-- the lines of a storm
+abbrev pub totals_lines : ℕ → ℕ → ℕ → List ℕ
+totals_lines clients stored shares = clients_line clients ++ share_lines stored shares

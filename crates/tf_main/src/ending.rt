@@ -22,10 +22,12 @@ pub enum Ending {
     CannotRead(String),
     /// The run ended early.
     Fault(RunFault),
+    /// A thread of a storm couldn't be made.
+    NoThread,
 }
 
 /// Writes the ending's line to standard error, or to what stands for it, and answers the exit status:
-/// 0 after a whole run, 2 for want of memory, else 1. Takes no memory.
+/// 0 after a whole run, 2 for want of memory or of a thread, else 1. Takes no memory.
 ///
 /// A writer that fails keeps the part of the line that it took: there is nobody left to tell.
 pub fn report<W: Write>(ending: &Ending, err: &mut W) -> u8
@@ -43,6 +45,10 @@ pub fn report<W: Write>(ending: &Ending, err: &mut W) -> u8
             1
         }
         Ending::Fault(fault) => report_fault(fault, err),
+        Ending::NoThread => {
+            tell(&["cannot start a thread", "\n"], err);
+            2
+        }
     }
 }
 

@@ -21,6 +21,7 @@ pub use answer::{write_batch, write_compaction, write_found, write_publish, writ
 pub use ending::{Ending, report};
 pub use engine::Engine;
 pub use fault::RunFault;
+pub use line::write_totals;
 pub use plain::{Plain, run_script_plainly};
 pub use row::Row;
 pub use run::{read_script, run_commands};

@@ -2,7 +2,7 @@
 
 ghost use Rattle.std.specs.Prelude.{◌≡◌, ◌≤◌, length};
 ghost use Rattle.std.specs.List.{flat_map};
-ghost use Rattle.tf_main.specs.Line.{batch_lines, clock_line, compacted_line, count_line, failure_line, number_line, published_line, pulse_lines, refusal_line, refused_line};
+ghost use Rattle.tf_main.specs.Line.{batch_lines, clock_line, compacted_line, count_line, failure_line, number_line, published_line, pulse_lines, refusal_line, refused_line, share_lines, totals_lines};
 ghost use Rattle.tf_main.specs.Output.{Writes};
 
 use crate::line_buffer::LineBuffer;
@@ -70,6 +70,23 @@ pub fn write_pulse<W: Write>(expired: u32, clock: u64, out: &mut W) -> io::Resul
 {
     write_number("expired", expired.into(), out)?;
     write_clock(clock, out)
+}
+
+/// Writes what a storm counted: `clients N`, `stored X` and `shares Y`. Takes no memory.
+pub fn write_totals<W: Write>(clients: u64, stored: u64, shares: u64, out: &mut W) -> io::Result<()>
+    ensures { Writes (W.contents out.old) (W.contents out.new) result
+        (totals_lines clients stored shares) }
+{
+    write_number("clients", clients, out)?;
+    write_shares(stored, shares, out)
+}
+
+/// Writes `stored X` and `shares Y`.
+fn write_shares<W: Write>(stored: u64, shares: u64, out: &mut W) -> io::Result<()>
+    ensures { Writes (W.contents out.old) (W.contents out.new) result (share_lines stored shares) }
+{
+    write_number("stored", stored, out)?;
+    write_number("shares", shares, out)
 }
 
 /// Writes `INDEX RESULT` for each failed event. Takes no memory.

@@ -1,0 +1,16 @@
+//! Storms of scripts: a client for each script, query workers and compactors, over a store of their own.
+//!
+//! [`run_storm`] reads all scripts, runs their commands by workers in threads, and writes what was counted. [`storm_files`] does so
+//! with the scripts in files.
+#![tactic(auto)]
+
+mod faults;
+mod files;
+mod opening;
+mod readers;
+mod storms;
+mod tasks;
+
+pub use faults::RunStormFault;
+pub use files::storm_files;
+pub use storms::run_storm;

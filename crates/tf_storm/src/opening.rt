@@ -1,0 +1,199 @@
+//! The making of a store that threads share, step by step: each step says one thing more of it.
+ghost use Rattle.std.specs.Prelude.{◌≡◌, ◌<◌, ◌≤◌, vec_len, IfOk, MatchResult};
+ghost use Rattle.tf_manifest.specs.Registries.{AreShelves};
+ghost use Rattle.tf_store.specs.Book.{book_of};
+ghost use Rattle.tf_store.specs.Rooms.{FitsRows};
+ghost use Rattle.tf_storm.specs.Storm.{AreTotals, IsBook, StopsWorking};
+
+use crate::faults::RunStormFault;
+use crate::readers::asked_readers;
+use crate::tasks::Tasks;
+use std::alloc::Global;
+use std::marker::{Brand, Send, Sync};
+use std::sync::Wait;
+use std::thread::Threads;
+use tf_main::RunFault;
+use tf_manifest::Registries;
+use tf_query::Version;
+use tf_readers::{Copies, Publishable, Reader};
+use tf_records::Refusal;
+use tf_rows::{EmptyRows, MutableTables, SealRows};
+use tf_store::{BlankStore, Share, Store, StoreName, StoreOf, VersionCopies, VersionOf};
+use tf_workers::{Gate, StormFault, Totals, storm};
+
+/// Runs the tasks of a storm over a store with registries of its own, and tells what was counted. What is stored is what the
+/// clients' shares count together.
+pub(crate) fn run_tasks<R, G>(
+    rt: &R,
+    alloc: Global,
+    tasks: &Tasks,
+    gate: &G,
+) -> Result<Totals, RunStormFault>
+where
+    R: Wait + Threads + Sync,
+    G: Gate + Sync,
+    requires few { (0 < vec_len tasks.now.works) × (vec_len tasks.now.works ≤ 64) }
+    requires asks { vec_len tasks.now.asks ≡ 2 }
+    ensures { MatchResult result (λ totals. AreTotals (vec_len tasks.now.works) totals) StopsWorking }
+{
+    let shares = tasks.works.len() as u32;
+    match Registries::new(alloc) {
+        Ok(registries) => with_name::<Brand, R, G>(
+            rt,
+            alloc,
+            &registries,
+            BlankStore::new(shares),
+            tasks,
+            gate,
+        ),
+        Err(_) => Err(RunStormFault::Run(RunFault::NoMemory)),
+    }
+}
+
+/// Runs tasks over a store of this name.
+fn with_name<S, R, G>(
+    rt: &R,
+    alloc: Global,
+    registries: &Registries<Global>,
+    blank: BlankStore,
+    tasks: &Tasks,
+    gate: &G,
+) -> Result<Totals, RunStormFault>
+where
+    S: StoreName + Send + Sync,
+    R: Wait + Threads + Sync,
+    G: Gate + Sync,
+    requires few { (0 < vec_len tasks.now.works) × (vec_len tasks.now.works ≤ 64) }
+    requires asks { vec_len tasks.now.asks ≡ 2 }
+    requires name { blank.ledger.name ≡ S.name }
+    requires parts { (blank.ledger.parts ≡ S.parts) × (S.parts ≡ vec_len tasks.now.works) }
+    requires history { blank.history ≡ S.history }
+    requires registries { AreShelves S.shelf registries.now }
+    ensures { MatchResult result (λ totals. AreTotals (vec_len tasks.now.works) totals) StopsWorking }
+{
+    with_rows::<MutableTables<Global>, S, R, G>(rt, alloc, registries, blank, tasks, gate)
+}
+
+/// Makes a store with a share for each client and two readers, and runs tasks over it.
+fn with_rows<T, S, R, G>(
+    rt: &R,
+    alloc: Global,
+    registries: &Registries<Global>,
+    blank: BlankStore,
+    tasks: &Tasks,
+    gate: &G,
+) -> Result<Totals, RunStormFault>
+where
+    T: EmptyRows<Global> + SealRows<Global> + Send + Drop,
+    S: StoreName + Send + Sync,
+    R: Wait + Threads + Sync,
+    G: Gate + Sync,
+    requires fits { FitsRows T.row }
+    requires few { (0 < vec_len tasks.now.works) × (vec_len tasks.now.works ≤ 64) }
+    requires asks { vec_len tasks.now.asks ≡ 2 }
+    requires name { blank.ledger.name ≡ S.name }
+    requires parts { (blank.ledger.parts ≡ S.parts) × (S.parts ≡ vec_len tasks.now.works) }
+    requires history { blank.history ≡ S.history }
+    requires registries { AreShelves S.shelf registries.now }
+    ensures { MatchResult result (λ totals. AreTotals (vec_len tasks.now.works) totals) StopsWorking }
+{
+    storm_versions::<T, S, Version<Global, S>, R, G>(
+        rt,
+        alloc,
+        Store::new(alloc, rt, registries, blank, tasks.works.len() as u32, 2),
+        tasks,
+        gate,
+    )
+}
+
+/// A new store that shows readers versions of type `V`, its shares, and its readers.
+type OpenedStore<T, V, S, R> = (
+    StoreOf<T, Copies<V, Global, S, R>, Global, S>,
+    Vec<Share<S>, Global>,
+    Vec<Reader<V, Global, S>, Global>,
+);
+
+/// Runs tasks over a new store, if there was memory for it. It is generic in the version that readers are shown.
+fn storm_versions<T, S, V, R, G>(
+    rt: &R,
+    alloc: Global,
+    opened: Result<OpenedStore<T, V, S, &R>, Refusal>,
+    tasks: &Tasks,
+    gate: &G,
+) -> Result<Totals, RunStormFault>
+where
+    T: SealRows<Global> + Send + Drop,
+    S: StoreName + Send + Sync,
+    V: VersionOf<Version<Global, S>> + Publishable + Send + Sync + Drop,
+    R: Wait + Threads + Sync,
+    G: Gate + Sync,
+    requires few { (0 < vec_len tasks.now.works) × (vec_len tasks.now.works ≤ 64) }
+    requires asks { vec_len tasks.now.asks ≡ 2 }
+    requires readers { IfOk opened (λ o. vec_len o.2 ≤ 2) }
+    requires shares { IfOk opened (λ o. (vec_len o.1 ≡ vec_len tasks.now.works) × (vec_len o.1 ≡ S.parts)) }
+    ensures { MatchResult result (λ totals. AreTotals (vec_len tasks.now.works) totals) StopsWorking }
+{
+    storm_opened(rt, alloc, opened, tasks, gate)
+}
+
+/// Runs tasks over a new store, if there was memory for it. It is generic in what readers enter.
+fn storm_opened<T, S, C, V, R, G>(
+    rt: &R,
+    alloc: Global,
+    opened: Result<
+        (
+            StoreOf<T, C, Global, S>,
+            Vec<Share<S>, Global>,
+            Vec<Reader<V, Global, S>, Global>,
+        ),
+        Refusal,
+    >,
+    tasks: &Tasks,
+    gate: &G,
+) -> Result<Totals, RunStormFault>
+where
+    T: SealRows<Global> + Send + Drop,
+    S: StoreName + Send + Sync,
+    C: VersionCopies<Version<Global, S>, S> + Send + Drop,
+    V: Publishable + Send + Sync + Drop,
+    R: Wait + Threads + Sync,
+    G: Gate + Sync,
+    requires few { (0 < vec_len tasks.now.works) × (vec_len tasks.now.works ≤ 64) }
+    requires asks { vec_len tasks.now.asks ≡ 2 }
+    requires readers { IfOk opened (λ o. vec_len o.2 ≤ 2) }
+    requires shares { IfOk opened (λ o. (vec_len o.1 ≡ vec_len tasks.now.works) × (vec_len o.1 ≡ S.parts)) }
+    ensures { MatchResult result (λ totals. AreTotals (vec_len tasks.now.works) totals) StopsWorking }
+{
+    let (store, shares, readers) = match opened {
+        Ok(opened) => opened,
+        Err(_) => return Err(RunStormFault::Run(RunFault::NoMemory)),
+    };
+    let readers = match asked_readers(alloc, readers) {
+        Ok(readers) => readers,
+        Err(_) => {
+            drop(store);
+            return Err(RunStormFault::Run(RunFault::NoMemory));
+        }
+    };
+    let works = tasks.works.as_slice();
+    let asks = tasks.asks.as_slice();
+    match storm(rt, alloc, alloc, store, shares, readers, works, asks, gate) {
+        Ok((store, totals)) => Ok(settled(&store, totals)),
+        Err(StormFault::NoMemory) => Err(RunStormFault::Run(RunFault::NoMemory)),
+        Err(StormFault::NoThread) => Err(RunStormFault::NoThread),
+    }
+}
+
+/// The totals of a storm, whose store has a lawful journal.
+fn settled<T, C, S>(store: &StoreOf<T, C, Global, S>, totals: Totals) -> Totals
+where
+    T: SealRows<Global> + Drop,
+    C: VersionCopies<Version<Global, S>, S> + Drop,
+    S: StoreName,
+    requires { totals.stored ≡ book_of store.now.forest.journal }
+    ensures same { result ≡ totals }
+    ensures book { IsBook result.stored }
+{
+    store.facts();
+    totals
+}
