@@ -12,6 +12,7 @@ use Rattle.tf_rows.specs.declared.found.Party.{Party}
 use Rattle.tf_rows.specs.Changes.{CanStepAll, all_stepped}
 use Rattle.tf_rows.specs.Edits.{party_of}
 use Rattle.tf_rows.specs.Counts.{Sealed}
+use Rattle.tf_rows.specs.DueSet.{Keys, StayHeld}
 use Rattle.tf_rows.specs.Floors.{HaveFloors}
 use Rattle.tf_rows.specs.Parts.{Parts}
 use Rattle.tf_rows.specs.Resident.{AreAmong, accounts_before}
@@ -43,12 +44,14 @@ module _ (has : Row → Bool) (fits : Row → Value → Bool) (takes_any : Row �
   AreRight (note ∷ notes) rows = AreRight notes rows × TakesBack note (all_undone notes rows)
 
   -- what always holds of a forest: its rows show their journal, a note takes back each entry that isn't kept, no transfer
-  -- can expire below its floors, the accounts that it holds are right, and no entry that is kept is younger than its clock
-  pub record IsForest (rows : Parts) (notes : List Noted) (kept clock : ℕ) (lows : Floors) (held : List (ℕ × Party)) : Type 0 where
+  -- can expire below its floors or without being held, the accounts that it holds are right, and no entry that is kept is younger
+  -- than its clock
+  pub record IsForest (rows : Parts) (notes : List Noted) (kept clock : ℕ) (lows : Floors) (keys : Keys) (held : List (ℕ × Party)) : Type 0 where
     pub shows : ShowTheirJournal rows
     pub right : AreRight notes rows
     pub count : length (journal_in rows) ≡ kept + length notes
     pub floors : HaveFloors lows (journal_in rows) kept
+    pub due : StayHeld keys (journal_in rows) kept
     pub resident : AreAmong (party_of (journal_in rows)) held
     pub up_to : IsUpTo clock (take kept (journal_in rows))
 

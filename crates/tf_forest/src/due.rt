@@ -11,20 +11,19 @@ impl<S: AllRows + Drop, A: Allocator + Copy> Forest<S, A> {
     /// The next pending transfer to expire: of those that are open, have a timeout and whose time is over at this moment,
     /// the one that expires first; of equal ones, the one stored first.
     ///
-    /// It searches expiry for its first key, and looks the transfer up in one row. The search passes over the tombstones of
-    /// transfers that were posted or voided since `keep` was last called, by a search and a look-up in each table of the
-    /// row for each, and over no other but one. It takes no memory.
+    /// It takes a search of a tree and a look-up in expiry, and one of each more for each transfer that was posted, voided or
+    /// expired since `keep` was last called and stands in front of it, and looks the transfer up in one row. It takes no memory.
     pub fn next_due(&self, at: u64) -> Option<Transfer>
         ensures { result ≡ next_due_of self.now.journal at }
     {
-        next_due(self.rows(), self.floor(), at)
+        next_due(self.rows(), self.due_set(), self.floor(), at)
     }
 
-    /// How many transfers are due at this moment, as `next_due` has it, counted up to `most`: by a search in expiry for
-    /// each. It takes no memory.
+    /// How many transfers are due at this moment, as `next_due` has it, counted up to `most`: by a search of a tree and a
+    /// look-up in expiry for each. It takes no memory.
     pub fn due_count(&self, at: u64, most: u32) -> u32
         ensures { result ≡ min most (length (due self.now.journal at)) }
     {
-        due_count(self.rows(), self.floor(), at, most)
+        due_count(self.rows(), self.due_set(), self.floor(), at, most)
     }
 }

@@ -1,5 +1,6 @@
 //! The ledger whose journal its rows spell.
 ghost use Rattle.std.specs.Prelude.{◌≡◌, ◌≤◌, [], length, take, OnErr};
+ghost use Rattle.tf_rows.specs.DueSet.{AreHeld};
 ghost use Rattle.tf_rows.specs.Floors.{IsFloor};
 ghost use Rattle.tf_rows.specs.Spelled.{ShowTheirJournal, journal_in};
 ghost use Rattle.tf_rows.specs.Nest.{AreEmpty};
@@ -18,10 +19,9 @@ use crate::note::Notes;
 use std::alloc::Allocator;
 use std::marker::Model;
 use tf_journal::{Entry, IdUse, Mark, Status, ids_are_unique, journals_are_within_limits};
-use tf_manifest::Row;
 use tf_records::{Account, Refusal, TIMESTAMP_MAX, Transfer};
 use tf_rows::{
-    AllRows, Floors, Resident, account, entries_leave_sums_in_range, formers_of, id_use, look_up,
+    AllRows, DueSet, Floors, Resident, account, entries_leave_sums_in_range, formers_of, id_use, look_up,
     next_entry_can_be_added, rows_answer_look_ups, rows_spell_the_journal_they_show, shown, status,
     transfer,
 };
@@ -39,6 +39,8 @@ pub struct Forest<S: AllRows + Drop, A: Allocator + Copy> {
     pub(crate) clock: u64,
     pub(crate) kept: usize,
     pub(crate) floors: Floors,
+    /// The keys of expiry, among which what is due next is looked for.
+    pub(crate) due: DueSet<A>,
     /// The accounts in use, which are looked up here first.
     pub(crate) resident: Resident<A>,
     pub(crate) alloc: A,
@@ -57,7 +59,7 @@ impl<S: AllRows + Drop, A: Allocator + Copy> Model for Forest<S, A> {
 
     ghost view = { λ f. record { journal = journal_in (S.parts f.rows); sealed = S.sealed f.rows; fresh = listed (fresh_in (S.parts f.rows)); needed = tables_needed (fresh_in (S.parts f.rows)) (S.sealed f.rows).tables; waiting = entries_waiting (fresh_in (S.parts f.rows)); clock = f.clock; kept = f.kept } };
 
-    ghost invariant = { λ f. IsForest S.has_row S.fits S.takes_any (S.parts f.rows) f.notes f.kept f.clock f.floors f.resident };
+    ghost invariant = { λ f. IsForest S.has_row S.fits S.takes_any (S.parts f.rows) f.notes f.kept f.clock f.floors f.due f.resident };
 }
 
 impl<S: AllRows + Drop, A: Allocator + Copy> Forest<S, A> {
@@ -80,6 +82,7 @@ impl<S: AllRows + Drop, A: Allocator + Copy> Forest<S, A> {
             clock: 0,
             kept: 0,
             floors: Floors::new(),
+            due: DueSet::new(alloc),
             resident: Resident::new(alloc),
             alloc,
         }
@@ -182,7 +185,7 @@ impl<S: AllRows + Drop, A: Allocator + Copy> Forest<S, A> {
 
     /// Stores a transfer, which the journal admits, by what is looked up for it: for each of its accounts one look-up among
     /// those in use, or three more in rows, and two in rows for the pending transfer that it posts or voids. Both accounts
-    /// are in use afterwards. `NoMemory` leaves all as it was.
+    /// are in use afterwards. A pending transfer that can expire takes one search of a tree more. `NoMemory` leaves all as it was.
     pub fn add_transfer(&mut self, transfer: Transfer) -> Result<(), Refusal>
         requires { CanGrow self.old.journal (Entry.Transfer transfer) }
         ensures addition { IsAddition (λ f. f.journal) (λ f. f.clock) (λ f. f.kept) self.old self.new (Entry.Transfer transfer) result }
@@ -226,6 +229,7 @@ impl<S: AllRows + Drop, A: Allocator + Copy> Forest<S, A> {
         entries_leave_sums_in_range();
         rows_answer_look_ups();
         let found = look_up(&self.rows, &self.resident, entry);
+        self.due.admit(entry, &found.settled)?;
         let formers = formers_of(&found, entry);
         match self.notes.add(&mut self.rows, &found, formers, entry) {
             Ok(()) => {}
@@ -241,6 +245,13 @@ impl<S: AllRows + Drop, A: Allocator + Copy> Forest<S, A> {
         ensures { IsFloor result self.now.journal }
     {
         self.floors.present
+    }
+
+    /// The keys of expiry, of which each that has a value is held.
+    pub(crate) fn due_set(&self) -> &DueSet<A>
+        ensures { AreHeld result.now self.now.journal }
+    {
+        &self.due
     }
 
     /// The present length of the journal, which isn't below what was last kept. It takes no memory.
@@ -266,13 +277,14 @@ impl<S: AllRows + Drop, A: Allocator + Copy> Forest<S, A> {
     {
         let left = to.length - self.kept;
         self.notes.undo_to(&mut self.rows, &mut self.resident, left);
+        self.due.undone(&self.rows, left);
         self.floors = self.floors.back();
     }
 
     /// Lets all entries stand for good, and sets the clock, to which no entry is younger. It takes no memory.
     ///
-    /// It looks for the first key of expiry, past the tombstones of those that came before it. Where as many accounts in use
-    /// are held as may be, it lets go of them all.
+    /// It takes a look-up for each pending transfer that was stored or settled since, and one search for the first key of expiry.
+    /// Where as many accounts in use are held as may be, it lets go of them all.
     pub fn keep(&mut self, moment: u64)
         requires up_to { IsUpTo moment self.old.journal }
         requires in_range { moment ≤ TIMESTAMP_MAX }
@@ -282,7 +294,8 @@ impl<S: AllRows + Drop, A: Allocator + Copy> Forest<S, A> {
         ensures sealed { self.new.sealed ≡ self.old.sealed }
         ensures rest { self.new ≡ record self.old { clock = moment; kept = length self.old.journal } }
     {
-        let first = self.rows.first_from(Row::Expiry, &self.floors.present);
+        self.due.sweep(&self.rows);
+        let first = self.due.first_from(&self.rows, &self.floors.present);
         self.floors = Floors::at(first);
         self.kept += self.notes.len();
         self.notes.clear();

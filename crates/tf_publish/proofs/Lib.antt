@@ -7,4 +7,3 @@ pub mod OneRow
 pub mod PublishRows
 pub mod Tables
 pub mod Partly
-pub mod Walks

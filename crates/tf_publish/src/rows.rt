@@ -1,11 +1,9 @@
 //! Mutable tables in front of the sealed ones of a manifest.
-ghost use Rattle.std.specs.Prelude.{◌≡◌, ◌∷◌, refl, IfErr, IfOk};
-ghost use Rattle.tf_table.specs.Content.{entry_of};
-ghost use Rattle.tf_table.specs.First.{IsFirstAbove};
+ghost use Rattle.std.specs.Prelude.{◌≡◌, refl, IfErr, IfOk};
 ghost use Rattle.tf_manifest.specs.Registries.{AreShelves};
 ghost use Rattle.tf_rows.specs.Counts.{nothing_sealed};
 ghost use Rattle.tf_rows.specs.Nest.{AreEmpty, IsTree, fits_row, has_each};
-ghost use Rattle.tf_rows.specs.Parts.{parts_of, sealed_in};
+ghost use Rattle.tf_rows.specs.Parts.{parts_of};
 
 use crate::Published;
 use std::alloc::Allocator;
@@ -20,19 +18,6 @@ use tf_table::Key;
 pub struct Rows<F: MutableRows + Drop, A: Allocator, N: Naming> {
     pub fresh: F,
     pub published: Published<A, N>,
-}
-
-impl<F: MutableRows + Drop, A: Allocator, N: Naming> Rows<F, A, N> {
-    /// The first key of a row above a given one that has an entry, a value or a tombstone, in the mutable table or a
-    /// sealed one.
-    fn first_above(&self, row: Row, key: &Key) -> Option<Key>
-        ensures { IsFirstAbove key.now (λ found. entry_of found (F.entries self.now.fresh row ∷ sealed_in self.now.published.tables row)) result }
-    {
-        Key::lesser(
-            self.fresh.first_above(row, key),
-            self.published.manifest().first_above(row, key),
-        )
-    }
 }
 
 impl<F: EmptyRows<A> + Drop, A: Allocator + Copy, N: Naming> Rows<F, A, N> {
@@ -72,14 +57,6 @@ impl<F: MutableRows + Drop, A: Allocator, N: Naming> RowSet for Rows<F, A, N> {
             Some(entry) => entry,
             None => self.published.manifest().find(row, key),
         }
-    }
-
-    fn first_from(&self, row: Row, key: &Key) -> Option<Key> {
-        let mut place = *key;
-        while self.find(row, &place).is_none() {
-            place = self.first_above(row, &place)?;
-        }
-        Some(place)
     }
 
     fn put(&mut self, row: Row, key: Key, entry: &Option<Value>) -> Result<Before, Refusal> {

@@ -11,7 +11,6 @@ use Rattle.tf_records.specs.declared.sums.Sums.{Sums}
 use Rattle.tf_records.specs.declared.transfer.Transfer.{Transfer}
 use Rattle.tf_table.specs.declared.key.Key.{Key}
 use Rattle.tf_table.specs.Content.{entry_at}
-use Rattle.tf_table.specs.First.{IsFirstAbove}
 use Rattle.tf_table.specs.Key.{key_cmp}
 use Rattle.tf_table.specs.Mutable.{given_back}
 use Rattle.tf_manifest.specs.declared.kind.Kind.{Kind}
@@ -355,10 +354,6 @@ module _ (inside view : Fresh) (is : inside ≡ view) (r : Row) (k : Kind) (of :
 
   pub found : (key : Key) (result : Option (Option Value)) → result ≡ entry_at key (seen_rows (value_by k) old) → result ≡ entry_at key (entries_by view r)
   found key result e = e ∙ ap (entry_at key) read
-
-  pub first : (key : Key) (result : Option Key) → IsFirstAbove key (λ found. entry_at found (seen_rows (value_by k) old)) result
-      → IsFirstAbove key (λ found. entry_at found (entries_by view r)) result
-  first key result h = subst (λ (rows : List (Key × Option Value)). IsFirstAbove key (λ found. entry_at found rows) result) read h
 
   -- a log takes a key that it doesn't have
   pub takes_new : (key : Key) → tree_by k ≡ false → (entry_at key (entries_by view r) ≡ None) ⊎ IsTree r → entry_at key old ≡ None

@@ -22,6 +22,9 @@ pub mod EditsOfRows
 pub mod CanChange
 pub mod Walks
 pub mod DueRows
+pub mod Unvalued
 pub mod BelowFloors
+pub mod KeyWalks
+pub mod HeldKeys
 pub mod Added
 pub mod HeldAccounts

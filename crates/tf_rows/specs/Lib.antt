@@ -14,4 +14,5 @@ pub mod Floors
 pub mod Resident
 pub mod SealedRow
 pub mod Due
+pub mod DueSet
 pub mod Spelled

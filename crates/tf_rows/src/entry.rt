@@ -38,16 +38,6 @@ pub(crate) fn has_none<V: Held, M: MutableTable<V, A>, A: Allocator + Clone>(tab
     table.is_empty()
 }
 
-/// The first key above a given one that has an entry, a value or a tombstone, if one has.
-pub(crate) fn first_above<V: Held, M: MutableTable<V, A>, A: Allocator + Clone>(
-    table: &M,
-    key: &Key,
-) -> Option<Key>
-    ensures { IsFirstAbove key.now (λ found. entry_at found (seen_rows V.seen (M.rows table.now))) result }
-{
-    table.first_above(key)
-}
-
 /// Gives a key an entry, and tells the one that it had.
 ///
 /// The only refusal is `NoMemory`, and it changes nothing.

@@ -19,8 +19,8 @@ use tf_table::Key;
 /// Keys of expiry below which there is none: one of the journal itself, and one of each journal that an undo can leave.
 ///
 /// The search for what is due begins at the first. It is the first key of expiry when entries are kept, is lowered to
-/// each new key, and raised to each that expires. So no tombstone is passed over twice, but for those of transfers that
-/// were posted or voided since entries were last kept. The second isn't raised in between.
+/// each new key, and raised to each that expires. So a pulse passes over what it made expire but once. The second isn't raised
+/// in between.
 #[derive(Clone, Copy)]
 pub struct Floors {
     pub present: Key,
@@ -28,7 +28,7 @@ pub struct Floors {
 }
 
 /// The key of a pending transfer with a timeout.
-fn expiry_key(pending: &Transfer) -> Key
+pub(crate) fn expiry_key(pending: &Transfer) -> Key
     ensures { result ≡ expiry_key pending.now }
 {
     Key {

@@ -1,7 +1,6 @@
 //! Mutable tables of all rows, each of its own kind of value, that are found, written and taken back by their rows' names.
 ghost use Rattle.std.specs.Prelude.{◌≡◌, ◌⊎◌, None, IsTrue, IsSome, IfSome, IfOk, IfErr, OnErr};
 ghost use Rattle.tf_table.specs.Content.{entry_at};
-ghost use Rattle.tf_table.specs.First.{IsFirstAbove};
 ghost use Rattle.tf_table.specs.declared.key.Key.{Key};
 ghost use Rattle.tf_manifest.specs.declared.row.Row.{Row};
 ghost use Rattle.tf_manifest.specs.declared.value.Value.{Value};
@@ -22,10 +21,6 @@ pub trait MutableRows {
     /// The entry of a key in a row's table: a value, None inside for a tombstone, or none.
     fn entry(&self, row: Row, key: &Key) -> Before
         ensures { result ≡ entry_at key.now (entries self.now row) };
-
-    /// The first key of a row's table above a given one that has an entry, a value or a tombstone, if one has.
-    fn first_above(&self, row: Row, key: &Key) -> Option<Key>
-        ensures { IsFirstAbove key.now (λ found. entry_at found (entries self.now row)) result };
 
     /// Gives a key of a row an entry, a value or None for a tombstone, and tells the one that it had.
     ///

@@ -10,7 +10,7 @@ ghost use Rattle.tf_table.specs.Content.{entry_at};
 ghost use Rattle.tf_table.specs.Key.{key_cmp};
 ghost use Rattle.tf_table.specs.Mutable.{given_back};
 
-use crate::entry::{Before, entry_in, first_above, has_none, put_entry, take_back};
+use crate::entry::{Before, entry_in, has_none, put_entry, take_back};
 use crate::{EmptyRows, MutableRows, SealRows, SealedRow};
 use std::alloc::Allocator;
 use std::marker::Model;
@@ -150,23 +150,6 @@ impl<A: Allocator + Clone> MutableRows for MutableTables<A> {
             Kind::State => entry_in(&self.account_sums, key),
             Kind::Sums => entry_in(&self.history, key),
             Kind::Status => entry_in(&self.pending_status, key),
-        }
-    }
-
-    fn first_above(&self, row: Row, key: &Key) -> Option<Key> {
-        match row.kind() {
-            Kind::Stamp(StampRow::AccountIds) => first_above(&self.account_ids, key),
-            Kind::Stamp(StampRow::ExpiryEntries) => first_above(&self.expiry_entries, key),
-            Kind::Account => first_above(&self.account_objects, key),
-            Kind::Transfer => first_above(&self.transfer_objects, key),
-            Kind::Id => first_above(&self.transfer_ids, key),
-            Kind::Unit(row) => match index_place(row) {
-                Some(place) => first_above(&self.indexes.as_slice()[place], key),
-                None => first_above(&self.expiry, key),
-            },
-            Kind::State => first_above(&self.account_sums, key),
-            Kind::Sums => first_above(&self.history, key),
-            Kind::Status => first_above(&self.pending_status, key),
         }
     }
 

@@ -1,7 +1,6 @@
 //! Rows, each of its own kind of value, that are found, written and taken back by their names.
 ghost use Rattle.std.specs.Prelude.{◌≡◌, ◌⊎◌, Bool, None, IsTrue, IsSome, IfSome, IfOk, IfErr, OnErr};
 ghost use Rattle.tf_table.specs.Content.{entry_at};
-ghost use Rattle.tf_table.specs.First.{IsFirstFrom};
 ghost use Rattle.tf_manifest.specs.declared.row.Row.{Row};
 ghost use Rattle.tf_manifest.specs.declared.value.Value.{Value};
 ghost use Rattle.tf_rows.specs.Counts.{Sealed};
@@ -37,13 +36,6 @@ pub trait RowSet {
     fn find(&self, row: Row, key: &Key) -> Option<Value>
         requires { IsTrue (has_row row) }
         ensures { result ≡ value_of_part (parts self.now row) key.now };
-
-    /// The first key of a row at or above a given one that has a value, if one has.
-    ///
-    /// For each key on the way there that has a tombstone it takes a search and a look-up in each table.
-    fn first_from(&self, row: Row, key: &Key) -> Option<Key>
-        requires { IsTrue (has_row row) }
-        ensures { IsFirstFrom key.now (value_of_part (parts self.now row)) result };
 
     /// Gives a key of a row an entry, a value or None for a tombstone, and tells the one that its mutable table had.
     ///

@@ -10,6 +10,7 @@ use Rattle.tf_history.specs.declared.name.HistoryName as HistoryName
 use Rattle.tf_manifest.specs.contracts.manifest.Manifest as Manifest
 use Rattle.tf_query.specs.contracts.version.Version as Version
 use Rattle.tf_query.specs.contracts.version.Version.TheInside as VersionIn
+use Rattle.tf_rows.specs.contracts.due_set.DueSet as DueSet
 use Rattle.tf_rows.specs.contracts.resident.Resident as Resident
 use Rattle.tf_publish.specs.contracts.counted.CountedTables as CountedTables
 use Rattle.tf_publish.specs.contracts.counted.CountedTables.TheInside as CountedTablesIn
@@ -37,6 +38,9 @@ use denote.Struct.Struct.{Struct}
 use denote.Param.Send.{IsSend, IsSync, Frees, sendable, recorded_send, struct_send, view_send, view_sync}
 
 module _ (A : RattleType) (a : Allocator.Ghosts A.Denot) (A-send : IsSend A) (A-sync : IsSync A) (frees : Frees a a.dealloc_token) where
+  due-send : IsSend (DueSet.the_row A a)
+  due-send = search (crosses, over.crosses, knot.crosses, sendable) depth 60 fits 20000
+
   resident-send : IsSend (Resident.the_row A a)
   resident-send = search (crosses, over.crosses, knot.crosses, sendable) depth 60 fits 20000
 
@@ -145,10 +149,13 @@ module _ (A : RattleType) (a : Allocator.Ghosts A.Denot) (A-send : IsSend A) (A-
               (
                 search (crosses, sendable) depth 30,
                 (
-                  search (resident-send, crosses, over.crosses, sendable) depth 20,
+                  search (due-send, crosses, over.crosses, sendable) depth 20,
                   (
-                    search (A-send, sendable) depth 20,
-                    tt,
+                    search (resident-send, crosses, over.crosses, sendable) depth 20,
+                    (
+                      search (A-send, sendable) depth 20,
+                      tt,
+                    ),
                   ),
                 ),
               ),

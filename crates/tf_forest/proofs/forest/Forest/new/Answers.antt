@@ -1,5 +1,6 @@
 use Rattle.std.proofs.Common.{◌≡◌, ℕ, List, [], sym, ap, subst}
 use Rattle.tf_manifest.specs.declared.row.Row.{Row}
+use Rattle.tf_rows.specs.DueSet.{Keys}
 use Rattle.tf_rows.specs.Nest.{AreEmpty}
 use Rattle.tf_rows.specs.Parts.{Part, Parts, fresh_in}
 use Rattle.tf_publish.proofs.PublishRows.{none_needed, none_waits}
@@ -11,12 +12,13 @@ use Rattle.tf_forest.proofs.forest.Forest.new.Goals as goal
 
 pub invariant_of-result : goal.invariant_of-result
 invariant_of-result g c =
-    subst (λ (held : List (ℕ × Party)). IsForest g.S.RowSet.has_row g.S.RowSet.fits g.S.RowSet.takes_any (g.S.RowSet.parts c.args.rows) c.new.result 0 0 c.new-2.result held)
-    (sym c.new-3.ensures)
-    (subst (λ (notes : List Noted). IsForest g.S.RowSet.has_row g.S.RowSet.fits g.S.RowSet.takes_any (g.S.RowSet.parts c.args.rows) notes 0 0 c.new-2.result [])
-    (sym c.new.ensures)
-    (empty_forest g.S.RowSet.has_row g.S.RowSet.fits g.S.RowSet.takes_any c.rows_spell_the_journal_they_show.ensures
-    (g.S.RowSet.parts c.args.rows) c.requires c.new-2.result c.new-2.ensures))
+    let rows : Parts = g.S.RowSet.parts c.args.rows in
+    let IsNew : List Noted → Keys → List (ℕ × Party) → Type 0
+    = λ notes due held. IsForest g.S.RowSet.has_row g.S.RowSet.fits g.S.RowSet.takes_any rows notes 0 0 c.new-2.result due held in
+    subst (IsNew c.new.result c.new-3.result) (sym c.new-4.ensures)
+    (subst (λ (due : Keys). IsNew c.new.result due []) (sym c.new-3.ensures)
+    (subst (λ (notes : List Noted). IsNew notes [] []) (sym c.new.ensures)
+    (empty_forest g.S.RowSet.has_row g.S.RowSet.fits g.S.RowSet.takes_any c.rows_spell_the_journal_they_show.ensures rows c.requires c.new-2.result c.new-2.ensures)))
 
 pub returns-clause-journal : goal.returns-clause-journal
 returns-clause-journal g c =

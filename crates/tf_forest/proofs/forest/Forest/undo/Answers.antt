@@ -1,10 +1,14 @@
-use Rattle.std.proofs.Common.{◌≡◌, ◌-◌, List, length, take, ap, subst, sym, arith}
+use Rattle.std.proofs.Common.{◌≡◌, ◌+◌, ◌-◌, List, length, take, ap, subst, sym, arith}
 use Rattle.std.proofs.lemmas.List.{take-take}
 use Rattle.tf_journal.specs.declared.entry.Entry.{Entry}
 use Rattle.tf_journal.specs.Journal.{IsUpTo}
+use Rattle.tf_rows.specs.DueSet.{StayHeld}
 use Rattle.tf_rows.specs.Floors.{HaveFloors}
 use Rattle.tf_forest.specs.Forest.{View}
 use Rattle.tf_rows.specs.Spelled.{journal_in}
+use Rattle.tf_manifest.specs.declared.row.Row.TheVariants as row
+use Rattle.tf_rows.proofs.HeldKeys.{Free}
+use Rattle.tf_rows.proofs.Unvalued.{none_back}
 use Rattle.tf_forest.proofs.Notes.{cut_is_taken, cut_length}
 use Rattle.tf_forest.proofs.forest.Forest.undo.Goals as goal
 
@@ -27,8 +31,15 @@ invariant_of-self g c =
       right = c.undo_to.ensures.right;
       count = omega arith;
       floors = subst (λ (journal : List Entry). HaveFloors c.back-self-inside.result journal kept) taken (c.back-self-inside.ensures.holds old kept n (omega arith) c.self.invariant.floors);
+      due =
+          let both : length new ≡ kept + (n - kept) = omega arith in
+          c.undone.ensures new kept c.undo_to.ensures.shows.shows both
+          (subst (λ (journal : List Entry). StayHeld c.self.inside.due journal kept) taken (none_back (Free c.self.inside.due) kept n old (omega arith) c.self.invariant.due));
       resident = c.undo_to.ensures.resident;
       up_to =
           subst (λ (j : List Entry). IsUpTo c.self.inside.clock (take kept j)) taken
           (subst (IsUpTo c.self.inside.clock) (sym (take-take kept n old (omega arith))) c.self.invariant.up_to);
     }
+
+pub undone-requires : goal.undone-requires
+undone-requires g c = g.met.S.AllRows.has_all row.Expiry

@@ -31,7 +31,7 @@ invariant_of-self g c =
     let alone : ShowsJournal new.tables was =
     subst (λ (j : List Entry). ShowsJournal new.tables j) (sym (ap (λ (v : View). v.journal) c.self.view_is))
     (subst (λ (s : Sealed). ShowsJournal s.tables c.args.self.now.journal) (sym c.settle.ensures) c.requires.shows) in
-    same_forest has_each fits_row IsTree c.rows_spell_the_journal_they_show.ensures (parts_of before old.tables) (parts_of after new.tables) c.self.inside.notes c.self.inside.kept c.self.inside.clock c.self.inside.floors c.self.inside.resident
+    same_forest has_each fits_row IsTree c.rows_spell_the_journal_they_show.ensures (parts_of before old.tables) (parts_of after new.tables) c.self.inside.notes c.self.inside.kept c.self.inside.clock c.self.inside.floors c.self.inside.due c.self.inside.resident
     (values_alone after new.tables c.clear.ensures before old.tables was alone c.self.invariant.shows.shows) (logs_alone after new.tables c.clear.ensures) c.self.invariant all
 
 pub returns : goal.returns
