@@ -21,9 +21,9 @@ use std::marker::Model;
 use tf_journal::{Entry, IdUse, Mark, Status, ids_are_unique, journals_are_within_limits};
 use tf_records::{Account, Refusal, TIMESTAMP_MAX, Transfer};
 use tf_rows::{
-    AllRows, DueSet, Floors, Resident, account, entries_leave_sums_in_range, formers_of, id_use, look_up,
-    next_entry_can_be_added, rows_answer_look_ups, rows_spell_the_journal_they_show, shown, status,
-    transfer,
+    AllRows, DueSet, Floors, Resident, account, entries_leave_sums_in_range, formers_of, id_use,
+    look_up, next_entry_can_be_added, rows_answer_look_ups, rows_spell_the_journal_they_show,
+    shown, status, transfer,
 };
 use tf_table::Key;
 

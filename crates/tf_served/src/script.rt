@@ -15,7 +15,7 @@ use std::sync::Wait;
 use tf_main::{RunFault, read_script};
 use tf_manifest::Registries;
 use tf_query::Version;
-use tf_readers::{Copies, Publishable, Reader};
+use tf_readers::{Copies, Publishable};
 use tf_records::Refusal;
 use tf_rows::{EmptyRows, MutableTables, SealRows};
 use tf_script::Command;
@@ -92,14 +92,7 @@ fn run_named<S: StoreName, R: Wait, A: Allocator + Copy + Drop, B: Allocator, W:
     run_with_rows::<MutableTables<A>, A, S, R, B, W>(rt, alloc, registries, blank, commands, out)
 }
 
-/// A new store that shows readers versions of type `V`, its shares, and its readers.
-type OpenedStore<T, V, A, S, R> = (
-    StoreOf<T, Copies<V, A, S, R>, A, S>,
-    Vec<Share<S>, A>,
-    Vec<Reader<V, A, S>, A>,
-);
-
-/// Makes a store with one share and one reader, which nobody asks, and runs commands over it.
+/// Runs commands over a store with mutable tables of type `T`.
 fn run_with_rows<T, A, S, R, B, W>(
     rt: &R,
     alloc: A,
@@ -124,40 +117,45 @@ where
     ensures answered { OnOk result (HasAnswered true (commands_of commands.now) (W.contents out.old) (W.contents out.new)) }
     ensures fault { IfErr result (StopsServing (commands_of commands.now) (W.contents out.old) (W.contents out.new)) }
 {
-    serve_versions::<T, A, S, Version<A, S>, R, B, W>(
-        rt,
-        alloc,
-        Store::new(alloc, rt, registries, blank, 1, 1),
-        commands,
-        out,
+    run_with_versions::<T, Version<A, S>, A, S, R, B, W>(
+        rt, alloc, registries, blank, commands, out,
     )
 }
 
-/// Runs commands over a new store, if there was memory for it. It is generic in the version that readers are shown.
-fn serve_versions<T, A, S, V, R, B, W>(
+/// Makes a store with one share and one reader, which nobody asks, and runs commands over it. It is generic in the version that
+/// readers are shown, which is named where no store is.
+fn run_with_versions<T, V, A, S, R, B, W>(
     rt: &R,
     alloc: A,
-    opened: Result<OpenedStore<T, V, A, S, &R>, Refusal>,
+    registries: &Registries<A>,
+    blank: BlankStore,
     commands: &[Command<B>],
     out: &mut W,
 ) -> Result<(), RunFault>
 where
-    T: SealRows<A> + Drop,
+    T: EmptyRows<A> + SealRows<A> + Drop,
+    V: VersionOf<Version<A, S>> + Publishable + Drop,
     A: Allocator + Copy,
     S: StoreName,
-    V: VersionOf<Version<A, S>> + Publishable + Drop,
     R: Wait,
     B: Allocator,
     W: Write,
-    requires shares { IfOk opened (λ o. vec_len o.1 ≡ 1) }
-    requires limit { IfOk opened (λ o. o.0.forest.sealed.tables.pushed.limit ≡ 1048576) }
-    requires journal { IfOk opened (λ o. o.0.forest.journal ≡ []) }
-    requires clock { IfOk opened (λ o. o.0.forest.clock ≡ 0) }
-    requires published { IfOk opened (λ o. o.0.forest.sealed.counts.publishes ≡ 0) }
+    requires fits { FitsRows T.row }
+    requires name { blank.ledger.name ≡ S.name }
+    requires parts { (blank.ledger.parts ≡ S.parts) × (S.parts ≡ 1) }
+    requires history { blank.history ≡ S.history }
+    requires registries { AreShelves S.shelf registries.now }
+    requires limit { registries.now.limit ≡ 1048576 }
     ensures answered { OnOk result (HasAnswered true (commands_of commands.now) (W.contents out.old) (W.contents out.new)) }
     ensures fault { IfErr result (StopsServing (commands_of commands.now) (W.contents out.old) (W.contents out.new)) }
 {
-    serve_opened(rt, alloc, opened, commands, out)
+    serve_opened(
+        rt,
+        alloc,
+        StoreOf::<T, Copies<V, A, S, &R>, A, S>::new(alloc, rt, registries, blank, 1, 1),
+        commands,
+        out,
+    )
 }
 
 /// Runs commands over a new store, if there was memory for it. Nobody asks its readers. It is generic in them and in what they

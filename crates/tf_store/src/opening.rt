@@ -10,7 +10,7 @@ ghost use Rattle.tf_store.specs.Public.{nothing_public};
 use crate::public::{Public, first_versions, open_public};
 use crate::queue::Queue;
 use crate::tally::Tally;
-use crate::{BlankStore, Share, Store, StoreName, StoreOf, StoredCopies, StoredForest};
+use crate::{BlankStore, Share, Store, StoreName, StoreOf, StoredCopies, StoredForest, VersionOf};
 use std::alloc::Allocator;
 use std::sync::ledger::Book;
 use std::sync::{Wait, ledger};
@@ -76,59 +76,92 @@ where
 /// The names of a store: its book, the right to add to its history, and its empty front.
 type Names<S> = (Book<S>, (Head<S>, Front<S>));
 
-/// A store with its shares and its readers, which enter versions `V`.
-type Made<T, V, A, S, R> = (
+/// What a new store is made of beside its rows: its names, its shares, and the empty versions for it and for readers.
+type Begun<V, A, S> = (Names<S>, Vec<Share<S>, A>, (Version<A, S>, V));
+
+/// Takes a blank store's names, and cuts its shares.
+fn begin<V, A, S>(
+    alloc: A,
+    registries: &Registries<A>,
+    blank: BlankStore,
+    shares: u32,
+) -> Result<Begun<V, A, S>, Refusal>
+where
+    V: VersionOf<Version<A, S>>,
+    A: Allocator + Copy,
+    S: StoreName,
+    requires some { 0 < shares }
+    requires name { blank.ledger.name ≡ S.name }
+    requires parts { (blank.ledger.parts ≡ S.parts) × (S.parts ≡ shares) }
+    requires history { blank.history ≡ S.history }
+    requires registries { AreShelves S.shelf registries.now }
+    ensures names { IfOk result (λ r. (r.0.0.total ≡ 0) × (r.0.1.1 ≡ [])) }
+    ensures shares { IfOk result (λ r. (vec_len r.1 ≡ shares) × All (λ s. s ≡ 0) r.1.items) }
+    ensures versions { IfOk result (λ r. (r.2.0 ≡ []) × (V.journal r.2.1 ≡ [])) }
+    ensures refusal { IfErr result (λ refusal. refusal ≡ Refusal.NoMemory) }
+{
+    let BlankStore { ledger, history } = blank;
+    let (book, whole) = ledger.open::<S>();
+    let names = history.named::<S>();
+    let shares = cut(alloc, whole, shares)?;
+    let (first, again) = first_versions(alloc, registries, &names.1)?;
+    Ok(((book, names), shares, (first, V::of(again))))
+}
+
+/// A new store, its shares, and its readers, which enter versions `V`.
+pub type NewStore<T, V, A, S, R> = (
     StoreOf<T, Copies<V, A, S, R>, A, S>,
     Vec<Share<S>, A>,
     Vec<Reader<V, A, S>, A>,
 );
 
-/// An empty store over these registries, its shares, which are handed in, and so many readers, or fewer where the copies have no
+/// An empty store over these registries, of what was begun for it, and so many readers, or fewer where the copies have no
 /// place for more. The versions are those for the store and for readers. It knows the latter by what can be published alone.
 fn over_registries<T, V, A, S, R>(
     alloc: A,
     rt: R,
     registries: &Registries<A>,
-    names: Names<S>,
-    shares: Vec<Share<S>, A>,
-    versions: (Version<A, S>, V),
+    begun: Result<Begun<V, A, S>, Refusal>,
+    count: u32,
     readers: u32,
-) -> Result<Made<T, V, A, S, R>, Refusal>
+) -> Result<NewStore<T, V, A, S, R>, Refusal>
 where
     T: EmptyRows<A> + Drop,
     V: Publishable + Drop,
     A: Allocator + Copy,
     S: StoreName,
     R: Wait + Drop,
-    requires names { (names.0.total ≡ 0) × (names.1.1 ≡ []) }
-    requires shares { All (λ s. s ≡ 0) shares.items }
-    requires versions { (versions.0 ≡ []) × (V.journal versions.1 ≡ []) }
+    requires names { IfOk begun (λ b. (b.0.0.total ≡ 0) × (b.0.1.1 ≡ [])) }
+    requires shares { IfOk begun (λ b. (vec_len b.1 ≡ count) × All (λ s. s ≡ 0) b.1.items) }
+    requires versions { IfOk begun (λ b. (b.2.0 ≡ []) × (V.journal b.2.1 ≡ [])) }
+    requires refusal { IfErr begun (λ refusal. refusal ≡ Refusal.NoMemory) }
     requires registries { AreShelves S.shelf registries.now }
     ensures empty { IfOk result (λ r. (r.0.forest.journal ≡ []) × (r.0.forest.clock ≡ 0) × (r.0.waiting ≡ [])) }
     ensures readable { IfOk result (λ r. r.0.readable ≡ []) }
     ensures sealed { IfOk result (λ r. r.0.forest.sealed ≡ nothing_sealed registries.now.limit) }
-    ensures shares { IfOk result (λ r. (vec_len r.1 ≡ vec_len shares) × All (λ s. s ≡ 0) r.1.items) }
+    ensures shares { IfOk result (λ r. (vec_len r.1 ≡ count) × All (λ s. s ≡ 0) r.1.items) }
     ensures readers { IfOk result (λ r. (vec_len r.2 ≤ readers) × All (HasSeen []) r.2.items) }
     ensures refusal { IfErr result (λ refusal. refusal ≡ Refusal.NoMemory) }
 {
-    let (book, names) = names;
+    let ((book, names), shares, versions) = match begun {
+        Ok(begun) => begun,
+        Err(refusal) => return Err(refusal),
+    };
     let (public, readers) = open_public(alloc, rt, names, versions, readers)?;
     let rows = Rows::new(alloc, registries)?;
     Ok((over_rows(alloc, rows, book, public), shares, readers))
 }
 
-/// A new store, its shares, and its readers.
-pub type NewStore<T, A, S, R> = Made<T, Version<A, S>, A, S, R>;
-
-impl<T, A, S, R> Store<Forest<Rows<T, A, S>, A>, Copies<Version<A, S>, A, S, R>, A, S>
+impl<T, V, A, S, R> Store<Forest<Rows<T, A, S>, A>, Copies<V, A, S, R>, A, S>
 where
     T: EmptyRows<A> + Drop,
+    V: VersionOf<Version<A, S>> + Publishable + Drop,
     A: Allocator + Copy,
     S: StoreName,
     R: Wait + Drop,
 {
     /// An empty store over these registries, its shares, each 0, and as many readers as are asked for, or fewer where the copies
-    /// have no place for more. `NoMemory` is the only refusal.
+    /// have no place for more. What readers enter, `V`, is `Version<A, S>`. `NoMemory` is the only refusal.
     pub fn new(
         alloc: A,
         rt: R,
@@ -136,7 +169,7 @@ where
         blank: BlankStore,
         shares: u32,
         readers: u32,
-    ) -> Result<NewStore<T, A, S, R>, Refusal>
+    ) -> Result<NewStore<T, V, A, S, R>, Refusal>
         requires some { 0 < shares }
         requires name { blank.ledger.name ≡ S.name }
         requires parts { (blank.ledger.parts ≡ S.parts) × (S.parts ≡ shares) }
@@ -149,18 +182,12 @@ where
         ensures readers { IfOk result (λ r. (vec_len r.2 ≤ readers) × All (HasSeen []) r.2.items) }
         ensures refusal { IfErr result (λ refusal. refusal ≡ Refusal.NoMemory) }
     {
-        let BlankStore { ledger, history } = blank;
-        let (book, whole) = ledger.open::<S>();
-        let names = history.named::<S>();
-        let shares = cut(alloc, whole, shares)?;
-        let versions = first_versions(alloc, registries, &names.1)?;
         over_registries(
             alloc,
             rt,
             registries,
-            (book, names),
+            begin(alloc, registries, blank, shares),
             shares,
-            versions,
             readers,
         )
     }
