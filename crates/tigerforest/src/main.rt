@@ -2,12 +2,8 @@
 //! to 64 scripts over one empty store, all at once, and prints what their clients stored.
 #![tactic(auto)]
 
-mod files;
-mod script;
 mod storm;
 
-use crate::files::ending_unless_no_memory;
-use crate::script::run_script_in;
 use crate::storm::storm_scripts_in;
 use std::env;
 use std::marker::Sync;
@@ -16,6 +12,7 @@ use std::rt::{Env, Files};
 use std::sync::Wait;
 use std::thread::Threads;
 use tf_main::{Ending, report};
+use tf_program::{ending_unless_no_memory, run_script_in};
 
 fn main(rt: HostRuntime) -> ExitCode {
     let ending = run(&rt);

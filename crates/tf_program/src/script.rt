@@ -11,10 +11,7 @@ use tf_main::{Ending, RunFault};
 use tf_served::run_script;
 
 /// Runs the script in the file that these arguments name.
-pub(crate) fn run_script_in<R: Files + Print + AllocGlobal + Wait>(
-    rt: &R,
-    args: Args<Global>,
-) -> Ending {
+pub fn run_script_in<R: Files + Print + AllocGlobal + Wait>(rt: &R, args: Args<Global>) -> Ending {
     let mut args = args;
     let Some(name) = args.next() else {
         return Ending::Usage;
