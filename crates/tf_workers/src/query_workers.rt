@@ -1,11 +1,11 @@
 //! Query workers.
-ghost use Rattle.std.specs.Prelude.{◌≡◌, length, Err, IfErr, IfOk, MatchResult, Ok};
+ghost use Rattle.std.specs.Prelude.{◌≡◌, length, Err, IfErr, IfOk, IfSome, MatchResult, Ok};
 ghost use Rattle.tf_journal.specs.Answer.{looked_up_accounts, looked_up_transfers};
 ghost use Rattle.tf_workers.specs.Asks.{counted, row_count_of};
 
 use crate::Ask;
 use std::alloc::{Allocator, Global};
-use tf_crew::{Answered, WantOfMemory};
+use tf_crew::{Answered, Asked, Gate, WantOfMemory, query_worker_by};
 use tf_query::Version;
 use tf_readers::Reader;
 use tf_records::{BATCH_MAX, Refusal};
@@ -127,4 +127,18 @@ pub(crate) fn answer_of_list<Q: VersionReader + Drop>(
 ) -> Answered<Q> {
     let (worker, number) = place;
     answer(alloc, question(asks, first, worker, number), reader)
+}
+
+/// Asks a reader one thing after another, each of the version that was published last, and counts the rows of the answers.
+///
+/// What there is no version for is passed over, as is a look-up of more than `BATCH_MAX` ids. It ends early only for want of memory.
+/// It takes no lock and waits for nobody.
+pub fn query_worker<Q, G>(alloc: Global, reader: Q, asks: &[Ask], worker: u32, gate: &G) -> Asked
+where
+    Q: VersionReader + Drop,
+    G: Gate,
+    ensures { IfSome result.fault (λ fault. fault ≡ Refusal.NoMemory) }
+{
+    let ask = |_worker: u32, number: usize, reader: Q| answer(alloc, asks.get(number), reader);
+    query_worker_by(&ask, reader, asks.len(), worker, gate)
 }

@@ -156,7 +156,7 @@ where
 
 /// One critical section: does one piece of work under the lock, if there is one, publishes and picks there. Gives the share back,
 /// with the jobs that were picked.
-fn section<T, C, A, S, R>(
+pub(crate) fn section<T, C, A, S, R>(
     rt: &R,
     alloc: A,
     lists: Global,

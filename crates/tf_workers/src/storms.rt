@@ -7,7 +7,7 @@ use crate::query_workers::answer_of_list;
 use crate::sections::section_of_script;
 use crate::shared::SharedStore;
 use crate::{Ask, VersionReader, Work};
-use std::alloc::{AllocError, Allocator, Global};
+use std::alloc::{Allocator, Global};
 use std::marker::{Send, Sync};
 use std::sync::{Mutex, Wait};
 use std::thread::Threads;
@@ -29,23 +29,6 @@ pub struct Totals {
     pub shares: u64,
     /// Whether no worker ended early for want of memory.
     pub complete: bool,
-}
-
-/// The same list in the global allocator.
-fn in_global<X: Drop, A: Allocator>(
-    lists: Global,
-    list: Vec<X, A>,
-) -> Result<Vec<X, Global>, AllocError>
-    ensures { IfOk result (λ moved. vec_len moved ≡ vec_len list) }
-{
-    let mut moved = Vec::with_capacity(lists, list.len())?;
-    for one in list {
-        match moved.push(one) {
-            Ok(()) => {}
-            Err(_) => unreachable!(),
-        }
-    }
-    Ok(moved)
 }
 
 /// Runs all workers, of which query workers ask readers, and gives the clients' shares back. What clients and compactors do is given.
@@ -87,7 +70,7 @@ where
     )
 }
 
-/// What a client's critical section needs beside its share.
+/// What workers of a storm have beside what they are given at each call: closures capture this one struct.
 #[derive(Drop)]
 struct Desk<'a, T, C, A, S, R>
 where
@@ -163,7 +146,7 @@ where
     )
 }
 
-/// The same, with lists in the allocator of the store.
+/// The same, at a desk of their own.
 fn run_all<T, C, S, Q, R, G>(
     rt: &R,
     lists: Global,
@@ -187,8 +170,6 @@ where
     requires shares { vec_len shares ≡ length scripts.now }
     ensures { IfOk result (λ joined. vec_len joined.shares ≡ length scripts.now) }
 {
-    let shares = in_global(lists, shares)?;
-    let readers = in_global(lists, readers)?;
     let desk = Desk {
         rt,
         alloc,
@@ -271,9 +252,9 @@ where
     ensures stored { IfOk result (λ r. r.1.stored ≡ book_of r.0.forest.journal) }
     ensures shares { IfOk result (λ r. r.1.shares ≡ r.1.stored) }
 {
-    let lock = Mutex::new(SharedStore { store });
+    let lock = Mutex::new(SharedStore::new(store));
     let joined = run_all(
         rt, lists, alloc, &lock, shares, readers, scripts, asks, gate,
     );
-    settle(lock.into_inner().store, scripts.len() as u64, joined)
+    settle(lock.into_inner().into_store(), scripts.len() as u64, joined)
 }
