@@ -31,12 +31,21 @@ pub struct Totals {
     pub complete: bool,
 }
 
+/// What clients and compactors do, each at one call. What runs them knows a store by this alone: closures over its own type are past
+/// the limit of steps of their check.
+trait Critical<H: Drop, J: Drop> {
+    /// One critical section of a client: the piece of this number of its work.
+    fn section(&self, worker: u32, piece: usize, share: H) -> Section<H, J>;
+
+    /// Merges a job and installs what it merged. Tells whether it stands there.
+    fn merge(&self, job: J) -> Result<bool, WantOfMemory>;
+}
+
 /// Runs all workers, of which query workers ask readers, and gives the clients' shares back. What clients and compactors do is given.
-fn run_asking<H, J, Q, F, P, R, G>(
+fn run_asking<H, J, Q, D, R, G>(
     rt: &R,
     lists: Global,
-    run: &F,
-    merge: &P,
+    desk: &D,
     shares: Vec<H, Global>,
     readers: Vec<Q, Global>,
     scripts: &[Vec<Work>],
@@ -47,16 +56,16 @@ where
     H: Send + Drop,
     J: Send + Sync + Drop,
     Q: VersionReader + Send + Drop,
-    F: Fn(u32, usize, H) -> Section<H, J> + Sync,
-    P: Fn(J) -> Result<bool, WantOfMemory> + Sync,
+    D: Critical<H, J> + Sync,
     R: Wait + Threads + Sync,
     G: Gate + Sync,
-    requires calls { F.IsAlwaysCallable run.now × P.IsAlwaysCallable merge.now }
     requires some { (0 < length scripts.now) × (length scripts.now ≤ 64) }
     requires asks { (length asks.now ≤ 64) × (vec_len readers ≤ length asks.now) }
     requires shares { vec_len shares ≡ length scripts.now }
     ensures { IfOk result (λ joined. vec_len joined.shares ≡ length scripts.now) }
 {
+    let run = |worker: u32, piece: usize, share: H| desk.section(worker, piece, share);
+    let merge = |job: J| desk.merge(job);
     let first = scripts.len();
     let ask = |worker: u32, number: usize, reader: Q| answer_of_list(
         lists,
@@ -66,7 +75,7 @@ where
         reader,
     );
     run_crew(
-        rt, lists, run, merge, &ask, shares, readers, scripts, asks, gate,
+        rt, lists, &run, &merge, &ask, shares, readers, scripts, asks, gate,
     )
 }
 
@@ -86,28 +95,33 @@ where
     scripts: &'a [Vec<Work>],
 }
 
-/// One critical section of a client.
-fn section_at<T, C, A, S, R>(
-    desk: &Desk<'_, T, C, A, S, R>,
-    place: (u32, usize),
-    share: Share<S>,
-) -> Section<Share<S>, Job<A, S>>
+impl<T, C, S, R> Critical<Share<S>, Job<Global, S>> for Desk<'_, T, C, Global, S, R>
 where
-    T: SealRows<A> + Drop,
-    C: VersionCopies<Version<A, S>, S> + Drop,
-    A: Allocator + Copy,
+    T: SealRows<Global> + Drop,
+    C: VersionCopies<Version<Global, S>, S> + Drop,
     S: StoreName,
     R: Wait,
 {
-    section_of_script(
-        desk.rt,
-        desk.alloc,
-        desk.lists,
-        desk.store,
-        desk.scripts,
-        place,
-        share,
-    )
+    fn section(
+        &self,
+        worker: u32,
+        piece: usize,
+        share: Share<S>,
+    ) -> Section<Share<S>, Job<Global, S>> {
+        section_of_script(
+            self.rt,
+            self.alloc,
+            self.lists,
+            self.store,
+            self.scripts,
+            (worker, piece),
+            share,
+        )
+    }
+
+    fn merge(&self, job: Job<Global, S>) -> Result<bool, WantOfMemory> {
+        compact(self.rt, self.alloc, self.store, job)
+    }
 }
 
 /// Runs all workers round the lock of a store, and gives the clients' shares back.
@@ -131,13 +145,10 @@ where
     requires shares { vec_len shares ≡ length desk.now.scripts.now }
     ensures { IfOk result (λ joined. vec_len joined.shares ≡ length desk.now.scripts.now) }
 {
-    let run = |worker: u32, piece: usize, share: Share<S>| section_at(desk, (worker, piece), share);
-    let merge = |job: Job<Global, S>| compact(desk.rt, desk.alloc, desk.store, job);
     run_asking(
         rt,
         desk.lists,
-        &run,
-        &merge,
+        desk,
         shares,
         readers,
         desk.scripts,

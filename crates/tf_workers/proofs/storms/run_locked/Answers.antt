@@ -16,20 +16,8 @@ heap-sync = search sendable depth 20
 heap-frees : Frees ghosts ghosts.dealloc_token
 heap-frees = frees
 
-pub run_asking-requires-sync-F : goal.run_asking-requires-sync-F
-run_asking-requires-sync-F g c κs within =
-    let T-send = c.type_bounds.send-T in
-    let C-send = c.type_bounds.send-C in
-    let S-send = c.type_bounds.send-S in
-    let S-sync = c.type_bounds.sync-S in
-    let R-sync = c.type_bounds.sync-R in
-    let A-send = heap-send in
-    let A-sync = heap-sync in
-    let A-frees = heap-frees in
-    search (store-send, forest-send, rows-send, work.the_sync, crosses, over.crosses, sendable) depth 60 fits 20000
-
-pub run_asking-requires-sync-P : goal.run_asking-requires-sync-P
-run_asking-requires-sync-P g c κs within =
+pub run_asking-requires-sync-D : goal.run_asking-requires-sync-D
+run_asking-requires-sync-D g c κs within =
     let T-send = c.type_bounds.send-T in
     let C-send = c.type_bounds.send-C in
     let S-send = c.type_bounds.send-S in
