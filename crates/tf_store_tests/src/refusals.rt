@@ -1,0 +1,72 @@
+//! Requests for memory that are refused.
+
+use crate::opening::{Fixture, try_text};
+use std::test::Fail;
+
+/// Nothing, which a store without memory isn't there for.
+const UNOPENED: &str = "count shares: 0";
+
+#[test]
+fn a_store_is_not_opened_without_memory(rt: HostRuntime) -> Result<(), Fail> {
+    let fixture = Fixture {
+        lacks_memory: true,
+        ..Fixture::USUAL
+    };
+    try_text(&rt, fixture, UNOPENED)
+}
+
+/// On a heap that has no byte left, a publish hands out the receipts of batches that stored nothing, another one hands out none,
+/// and a version is taken.
+const IDLE: &str = "\
+accounts | transfers 1 1 | publish: 2
+transfers 1 1 | run accounts 0; end
+fill 0 | publish: 2 | publish: 0 | take | free
+ask taken 0 now: 10";
+
+#[test]
+fn a_publish_where_nothing_was_stored_takes_no_memory(rt: HostRuntime) -> Result<(), Fail> {
+    try_text(&rt, Fixture::USUAL, IDLE)
+}
+
+/// Four rounds of calls, each refused in turn: the room grows by 144 bytes from three starts, 48 apart, and that of a publish,
+/// which takes some 90 KB for the references of all rows, by 720 from three starts, 240 apart. After each refusal all is as before,
+/// but for tables that a publish pushed, and at last the call answers as the plain ledger does. The room that a pulse asks for
+/// stays, so that later ones may need no more. In each second round a version is taken first, which publishes too, but for
+/// receipts: the publish needs no memory then.
+const IN_TURN: &str = "\
+accounts | publish: 1
+grow 144 0 3 | round 0 0 | round 0 1
+grow 144 0 1 | round 0 2
+grow 720 0 3 | publish: 2
+grow 144 48 3 | round 1 0 | round 1 1
+grow 144 48 0 | round 1 2
+grow 720 240 3 | take | grow | ask taken 0 now: 10 | let_taken
+fill 0 | publish: 2 | free
+grow 144 96 3 | round 2 0 | round 2 1
+grow 144 96 0 | round 2 2
+grow 720 480 3 | publish: 2
+grow 144 0 3 | round 3 0 | round 3 1
+grow 144 0 0 | round 3 2
+grow 720 0 3 | take | grow | ask taken 0 now: 10 | let_taken
+fill 0 | publish: 2 | free";
+
+#[test]
+fn a_store_that_was_refused_memory_is_as_before(rt: HostRuntime) -> Result<(), Fail> {
+    try_text(&rt, Fixture::USUAL, IN_TURN)
+}
+
+/// Calls with so many bytes left of the heap, whatever is refused.
+const DROPPED: &str = "\
+accounts | round 0 | publish: 3
+fill M | round 1 0: any | free
+fill M | round 1 1: any | free
+fill M | round 1 2: any | free
+fill M | take: any | publish: any | free";
+
+#[test]
+fn a_store_that_is_dropped_after_refusals_frees_its_heap(rt: HostRuntime) -> Result<(), Fail> {
+    for room in 0..40 {
+        try_text(&rt, Fixture::with_parameter(room * 256), DROPPED)?;
+    }
+    Ok(())
+}

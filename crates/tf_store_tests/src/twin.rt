@@ -1,0 +1,153 @@
+//! The plain ledger beside a store: what it answers, the store answers too.
+
+use crate::plain::{Answer, Outcome, Plain, is_same};
+use crate::tried::Told;
+use std::alloc::{AllocError, Global};
+use tf_journal::Ledger;
+use tf_records::{Refusal, Reply};
+use tf_script::Command;
+
+/// A plain ledger, the batches whose receipts a store owes, as the plain ledger ran them, and the ledger as it was when it was
+/// marked, with what was run since then.
+#[derive(Drop)]
+pub struct Twin {
+    plain: Plain,
+    waiting: Vec<Told, Global>,
+    then: Plain,
+    since: Vec<Command<Global>, Global>,
+}
+
+impl Twin {
+    /// An empty ledger, marked, and no batch.
+    pub fn new(alloc: Global) -> Twin {
+        Twin {
+            plain: Plain::new(alloc),
+            waiting: Vec::new(alloc),
+            then: Plain::new(alloc),
+            since: Vec::new(alloc),
+        }
+    }
+
+    /// The ledger.
+    pub fn plain(&self) -> &Plain {
+        &self.plain
+    }
+
+    /// The ledger as it was when it was marked.
+    pub fn then(&self) -> &Plain {
+        &self.then
+    }
+
+    /// Marks the ledger as it is.
+    pub fn mark(&mut self, alloc: Global) {
+        run_all(alloc, &mut self.then, &self.since);
+        self.since.clear();
+    }
+
+    /// Runs a batch or a pulse that the store ran. Tells whether both have the same outcome.
+    pub fn follow(
+        &mut self,
+        alloc: Global,
+        outcome: &Outcome,
+        command: &Command<Global>,
+    ) -> Result<bool, Refusal> {
+        let clock = self.plain.ledger().clock();
+        let expected = self.plain.run(alloc, command);
+        let is_right = is_same(outcome, &expected);
+        self.since.push(copy_of(alloc, command)?)?;
+        if let Ok(Answer::Batch(reply)) = expected {
+            self.wait(alloc, command, clock, reply)?;
+        }
+        Ok(is_right)
+    }
+
+    /// A batch waits for its receipt.
+    fn wait(
+        &mut self,
+        alloc: Global,
+        command: &Command<Global>,
+        clock: u64,
+        reply: Reply<Global>,
+    ) -> Result<(), Refusal> {
+        let batch = copy_of(alloc, command)?;
+        self.waiting.push(Told {
+            batch,
+            clock,
+            reply: reply.into_vec(),
+        })?;
+        Ok(())
+    }
+
+    /// Whether these are the receipts of all batches that waited, in their order. Then none waits.
+    pub fn is_told(&mut self, told: &Vec<Told, Global>) -> bool {
+        let is_right = are_told(told, &self.waiting);
+        self.waiting.clear();
+        is_right
+    }
+}
+
+/// Runs commands on a ledger.
+fn run_all(alloc: Global, plain: &mut Plain, commands: &Vec<Command<Global>, Global>) {
+    for command in commands {
+        let _answer = plain.run(alloc, command);
+    }
+}
+
+/// Whether receipts tell of these batches, in their order.
+fn are_told(told: &Vec<Told, Global>, waiting: &Vec<Told, Global>) -> bool {
+    if told.len() != waiting.len() {
+        return false;
+    }
+    for (one, other) in told.iter().zip(waiting.iter()) {
+        if !is_one_told(one, other) {
+            return false;
+        }
+    }
+    true
+}
+
+fn is_one_told(told: &Told, waiting: &Told) -> bool {
+    told.clock == waiting.clock
+        && told.reply.as_slice() == waiting.reply.as_slice()
+        && is_same_batch(&told.batch, &waiting.batch)
+}
+
+/// A copy of a batch or of a pulse.
+fn copy_of(alloc: Global, command: &Command<Global>) -> Result<Command<Global>, AllocError> {
+    Ok(match command {
+        Command::Accounts { now, events } => Command::Accounts {
+            now: *now,
+            events: events.to_vec(alloc)?,
+        },
+        Command::Transfers { now, events } => Command::Transfers {
+            now: *now,
+            events: events.to_vec(alloc)?,
+        },
+        Command::Pulse { now, max } => Command::Pulse {
+            now: *now,
+            max: *max,
+        },
+        _ => Command::Publish,
+    })
+}
+
+/// Whether two batches have the same moment and the same events.
+fn is_same_batch(one: &Command<Global>, other: &Command<Global>) -> bool {
+    match (one, other) {
+        (
+            Command::Accounts { now, events },
+            Command::Accounts {
+                now: moment,
+                events: others,
+            },
+        ) => now == moment && events.as_slice() == others.as_slice(),
+        (
+            Command::Transfers { now, events },
+            Command::Transfers {
+                now: moment,
+                events: others,
+            },
+        ) => now == moment && events.as_slice() == others.as_slice(),
+        _ => false,
+    }
+}
