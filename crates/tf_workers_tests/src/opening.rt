@@ -1,0 +1,229 @@
+//! Empty stores, made step by step by functions that are generic in what they needn't know.
+ghost use Rattle.std.specs.Prelude.{◌≡◌, ◌<◌, ◌≤◌, vec_len, IfOk};
+ghost use Rattle.tf_manifest.specs.Registries.{AreShelves};
+ghost use Rattle.tf_store.specs.Rooms.{FitsRows};
+
+use crate::gates::Meetings;
+use crate::readers::{WatchedReader, watched};
+use crate::receipts::learn;
+use crate::tasks::Tasks;
+use crate::trials::{Trial, Tried};
+use crate::turns::take_turns;
+use std::alloc::Global;
+use std::marker::{Brand, Send, Sync};
+use std::sync::Wait;
+use std::thread::Threads;
+use tf_manifest::Registries;
+use tf_query::Version;
+use tf_readers::{Copies, Publishable, Reader};
+use tf_records::Refusal;
+use tf_rows::{EmptyRows, MutableTables, SealRows};
+use tf_store::{BlankStore, Share, Store, StoreName, StoreOf, VersionCopies, VersionOf};
+use tf_workers::{Totals, storm};
+
+/// Runs a trial on an empty store with registries of its own, which has a share for each client and two readers.
+pub fn try_out<R: Wait + Threads + Sync>(
+    rt: &R,
+    alloc: Global,
+    tasks: &Tasks,
+    trial: Trial,
+    gate: &Meetings,
+) -> Tried
+    requires clients { (0 < vec_len tasks.now.works) × (vec_len tasks.now.works ≤ 64) }
+    requires asks { vec_len tasks.now.asks ≡ 2 }
+{
+    let shares = tasks.works.len() as u32;
+    match Registries::new(alloc) {
+        Ok(registries) => with_name::<Brand, R>(
+            rt,
+            alloc,
+            &registries,
+            BlankStore::new(shares),
+            tasks,
+            trial,
+            gate,
+        ),
+        Err(_) => Tried::Nothing,
+    }
+}
+
+/// On a store of this name.
+fn with_name<S, R>(
+    rt: &R,
+    alloc: Global,
+    registries: &Registries<Global>,
+    blank: BlankStore,
+    tasks: &Tasks,
+    trial: Trial,
+    gate: &Meetings,
+) -> Tried
+where
+    S: StoreName + Send + Sync,
+    R: Wait + Threads + Sync,
+    requires clients { (0 < vec_len tasks.now.works) × (vec_len tasks.now.works ≤ 64) }
+    requires asks { vec_len tasks.now.asks ≡ 2 }
+    requires name { blank.ledger.name ≡ S.name }
+    requires parts { (blank.ledger.parts ≡ S.parts) × (S.parts ≡ vec_len tasks.now.works) }
+    requires history { blank.history ≡ S.history }
+    requires registries { AreShelves S.shelf registries.now }
+{
+    with_rows::<MutableTables<Global>, S, R>(rt, alloc, registries, blank, tasks, trial, gate)
+}
+
+/// On a store over such rows.
+fn with_rows<T, S, R>(
+    rt: &R,
+    alloc: Global,
+    registries: &Registries<Global>,
+    blank: BlankStore,
+    tasks: &Tasks,
+    trial: Trial,
+    gate: &Meetings,
+) -> Tried
+where
+    T: EmptyRows<Global> + SealRows<Global> + Send + Drop,
+    S: StoreName + Send + Sync,
+    R: Wait + Threads + Sync,
+    requires fits { FitsRows T.row }
+    requires clients { (0 < vec_len tasks.now.works) × (vec_len tasks.now.works ≤ 64) }
+    requires asks { vec_len tasks.now.asks ≡ 2 }
+    requires name { blank.ledger.name ≡ S.name }
+    requires parts { (blank.ledger.parts ≡ S.parts) × (S.parts ≡ vec_len tasks.now.works) }
+    requires history { blank.history ≡ S.history }
+    requires registries { AreShelves S.shelf registries.now }
+{
+    with_versions::<T, S, Version<Global, S>, R>(
+        rt,
+        alloc,
+        Store::new(alloc, rt, registries, blank, tasks.works.len() as u32, 2),
+        tasks,
+        trial,
+        gate,
+    )
+}
+
+/// A new store that shows readers versions of type `V`, its shares, and its readers.
+type OpenedStore<T, V, S, R> = (
+    StoreOf<T, Copies<V, Global, S, R>, Global, S>,
+    Vec<Share<S>, Global>,
+    Vec<Reader<V, Global, S>, Global>,
+);
+
+/// On a new store, if there was memory for it. It is generic in the version that readers are shown.
+fn with_versions<T, S, V, R>(
+    rt: &R,
+    alloc: Global,
+    opened: Result<OpenedStore<T, V, S, &R>, Refusal>,
+    tasks: &Tasks,
+    trial: Trial,
+    gate: &Meetings,
+) -> Tried
+where
+    T: SealRows<Global> + Send + Drop,
+    S: StoreName + Send + Sync,
+    V: VersionOf<Version<Global, S>> + Publishable + Send + Sync + Drop,
+    R: Wait + Threads + Sync,
+    requires clients { (0 < vec_len tasks.now.works) × (vec_len tasks.now.works ≤ 64) }
+    requires asks { vec_len tasks.now.asks ≡ 2 }
+    requires readers { IfOk opened (λ o. vec_len o.2 ≤ 2) }
+    requires shares { IfOk opened (λ o. (vec_len o.1 ≡ vec_len tasks.now.works) × (vec_len o.1 ≡ S.parts)) }
+{
+    with_copies(rt, alloc, opened, tasks, trial, gate)
+}
+
+/// On a new store, if there was memory for it. It is generic in what readers enter.
+fn with_copies<T, S, C, V, R>(
+    rt: &R,
+    alloc: Global,
+    opened: Result<
+        (
+            StoreOf<T, C, Global, S>,
+            Vec<Share<S>, Global>,
+            Vec<Reader<V, Global, S>, Global>,
+        ),
+        Refusal,
+    >,
+    tasks: &Tasks,
+    trial: Trial,
+    gate: &Meetings,
+) -> Tried
+where
+    T: SealRows<Global> + Send + Drop,
+    S: StoreName + Send + Sync,
+    C: VersionCopies<Version<Global, S>, S> + Send + Drop,
+    V: Publishable + Send + Sync + Drop,
+    R: Wait + Threads + Sync,
+    requires clients { (0 < vec_len tasks.now.works) × (vec_len tasks.now.works ≤ 64) }
+    requires asks { vec_len tasks.now.asks ≡ 2 }
+    requires readers { IfOk opened (λ o. vec_len o.2 ≤ 2) }
+    requires shares { IfOk opened (λ o. (vec_len o.1 ≡ vec_len tasks.now.works) × (vec_len o.1 ≡ S.parts)) }
+{
+    let (store, shares, readers) = match opened {
+        Ok(opened) => opened,
+        Err(_) => return Tried::Nothing,
+    };
+    let readers = match watched(alloc, readers, tasks.answers) {
+        Ok(readers) => readers,
+        Err(_) => {
+            drop(store);
+            return Tried::Nothing;
+        }
+    };
+    match trial {
+        Trial::Storm => {
+            let works = tasks.works.as_slice();
+            let asks = tasks.asks.as_slice();
+            told(storm(rt, alloc, alloc, store, shares, readers, works, asks, gate))
+        }
+        _ => try_alone(rt, alloc, store, shares, readers, tasks, trial),
+    }
+}
+
+/// What was counted, once the store is dropped.
+fn told<X: Drop, E: Drop>(ended: Result<(X, Totals), E>) -> Tried {
+    match ended {
+        Ok((store, totals)) => {
+            drop(store);
+            Tried::Storm(totals)
+        }
+        Err(_) => Tried::Nothing,
+    }
+}
+
+/// On a store with the last share and the last reader, in one thread.
+fn try_alone<T, S, C, V, R>(
+    rt: &R,
+    alloc: Global,
+    store: StoreOf<T, C, Global, S>,
+    shares: Vec<Share<S>, Global>,
+    readers: Vec<WatchedReader<V, S>, Global>,
+    tasks: &Tasks,
+    trial: Trial,
+) -> Tried
+where
+    T: SealRows<Global> + Drop,
+    S: StoreName,
+    C: VersionCopies<Version<Global, S>, S> + Drop,
+    V: Publishable + Drop,
+    R: Wait,
+    requires clients { 0 < vec_len tasks.now.works }
+    requires asks { vec_len tasks.now.asks ≡ 2 }
+{
+    let mut shares = shares;
+    let mut readers = readers;
+    let (Some(share), Some(reader)) = (shares.pop(), readers.pop()) else {
+        drop(store);
+        return Tried::Nothing;
+    };
+    match trial {
+        Trial::Receipt => Tried::Receipt(learn(rt, alloc, store, share, reader)),
+        _ => {
+            let work = tasks.works[0].as_slice();
+            let asks = tasks.asks[0].as_slice();
+            match take_turns(rt, alloc, store, share, reader, work, asks) {
+                Some(turns) => Tried::Turns(turns),
+                None => Tried::Nothing,
+            }
+        }
+    }
+}

@@ -1,0 +1,132 @@
+//! Tests: storms, and workers in turn.
+ghost use Rattle.std.specs.Prelude.{◌≡◌, ◌<◌, ◌≤◌, vec_len};
+
+use crate::dice::Dice;
+use crate::gates::Meetings;
+use crate::opening::try_out;
+use crate::plain::plain_count;
+use crate::tasks::{Tasks, one_client, random_tasks, that_meet, transfers_between_two};
+use crate::trials::{Trial, Tried};
+use crate::turns::Turns;
+use std::marker::Sync;
+use std::process::Abort;
+use std::sync::Wait;
+use std::test::Fail;
+use std::thread::Threads;
+use tf_workers::{Reckoning, Totals};
+
+/// Workers in turn at a store of one share.
+fn turns_of<R: Abort + AllocGlobal + Wait + Threads + Sync>(
+    rt: &R,
+    transfers: u64,
+) -> Result<Turns, Fail> {
+    let work = transfers_between_two(rt.alloc(), transfers)?;
+    let tasks = one_client(rt.alloc(), work)?;
+    match try_out(rt, rt.alloc(), &tasks, Trial::Turns, &Meetings::new(true)) {
+        Tried::Turns(turns) => Ok(turns),
+        _ => Err(Fail::new("workers in turn had no memory")),
+    }
+}
+
+/// A storm stores what the plain ledger stores, and all shares together tell so.
+fn assert_counted<R: Abort + AllocGlobal + Wait + Threads + Sync>(
+    rt: &R,
+    tasks: &Tasks,
+    gate: &Meetings,
+    complete: bool,
+) -> Result<(), Fail>
+    requires clients { (0 < vec_len tasks.now.works) × (vec_len tasks.now.works ≤ 64) }
+    requires asks { vec_len tasks.now.asks ≡ 2 }
+{
+    let count = plain_count(rt.alloc(), tasks.works.as_slice())?;
+    let expected = Totals {
+        clients: tasks.works.len() as u64,
+        stored: count,
+        shares: count,
+        complete,
+    };
+    match try_out(rt, rt.alloc(), tasks, Trial::Storm, gate) {
+        Tried::Storm(totals) => {
+            assert!(rt; totals == expected);
+            Ok(())
+        }
+        _ => Err(Fail::new("a storm had no memory or no thread")),
+    }
+}
+
+#[test]
+fn a_client_alone_stores_all_and_counts_it(rt: HostRuntime) -> Result<(), Fail> {
+    let turns = turns_of(&rt, 4)?;
+    assert!(rt; turns.merges.is_complete && turns.merges.share == 6 && turns.book == 6);
+    Ok(())
+}
+
+#[test]
+fn a_compactor_alone_installs_twelve_tables_and_drops_a_stale_one(
+    rt: HostRuntime,
+) -> Result<(), Fail> {
+    let merges = turns_of(&rt, 4)?.merges;
+    let (before, after) = merges.references;
+    let expected = Reckoning {
+        offered: 13,
+        taken: 13,
+        left: 0,
+    };
+    assert!(rt; merges.is_complete && merges.installed == 12 && before > after);
+    assert!(rt; merges.reckoned == expected && merges.jobs == (13, 13));
+    Ok(())
+}
+
+#[test]
+fn a_version_from_before_a_compaction_keeps_its_bytes(rt: HostRuntime) -> Result<(), Fail> {
+    assert!(rt; turns_of(&rt, 4)?.merges.is_kept);
+    Ok(())
+}
+
+#[test]
+fn a_query_worker_alone_asks_twice(rt: HostRuntime) -> Result<(), Fail> {
+    let turns = turns_of(&rt, 1)?;
+    assert!(rt; turns.rows == Some(2) && turns.questions == (2, 2));
+    Ok(())
+}
+
+#[test]
+fn a_receipt_that_a_reader_learned_is_read_back(rt: HostRuntime) -> Result<(), Fail> {
+    let tasks = one_client(rt.alloc(), Vec::new(rt.alloc()))?;
+    let tried = try_out(
+        &rt,
+        rt.alloc(),
+        &tasks,
+        Trial::Receipt,
+        &Meetings::new(true),
+    );
+    assert!(rt; matches!(tried, Tried::Receipt(true)));
+    Ok(())
+}
+
+#[test]
+fn workers_go_at_the_same_time(rt: HostRuntime) -> Result<(), Fail> {
+    let tasks = that_meet(rt.alloc())?;
+    let gate = Meetings::new(false);
+    assert_counted(&rt, &tasks, &gate, true)?;
+    assert!(rt; gate.have_met());
+    Ok(())
+}
+
+#[test]
+fn clients_of_any_number_store_what_they_count(rt: HostRuntime) -> Result<(), Fail> {
+    let mut dice = Dice::new(1);
+    for clients in [1, 2, 4, 16, 64u32] {
+        for _round in 0..3u32 {
+            let tasks = random_tasks(rt.alloc(), &mut dice, clients, 8)?;
+            assert_counted(&rt, &tasks, &Meetings::new(true), true)?;
+        }
+    }
+    Ok(())
+}
+
+#[test]
+fn a_storm_whose_query_workers_lack_memory_counts_all(rt: HostRuntime) -> Result<(), Fail> {
+    let tasks = random_tasks(rt.alloc(), &mut Dice::new(2), 4, 3)?;
+    assert_counted(&rt, &tasks, &Meetings::new(true), false)
+}
