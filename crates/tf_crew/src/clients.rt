@@ -50,17 +50,29 @@ where
     let mut share = share;
     let mut seat = seat;
     let mut call = 0u32;
+    let mut pieces_done = 0u64;
+    let mut stored = 0u64;
     for piece in 0..pieces {
         gate.before(worker, call);
-        let Section { share: back, jobs } = run(worker, piece, share);
+        let Section {
+            share: back,
+            stored: more,
+            jobs,
+        } = run(worker, piece, share);
         share = back;
+        stored = stored.saturating_add(more);
         gate.after(worker, call);
         call = call.saturating_add(1);
         match jobs {
-            Ok(jobs) => offer_all(rt, queue, &mut seat, jobs),
+            Ok(jobs) => {
+                pieces_done = pieces_done.saturating_add(1);
+                offer_all(rt, queue, &mut seat, jobs);
+            }
             Err(_) => {
                 return Ended {
                     share,
+                    pieces: pieces_done,
+                    stored,
                     seat,
                     fault: Some(Refusal::NoMemory),
                 };
@@ -69,6 +81,8 @@ where
     }
     Ended {
         share,
+        pieces: pieces_done,
+        stored,
         seat,
         fault: None,
     }

@@ -29,6 +29,7 @@ where
     ensures fault { IfSome result.fault (λ fault. fault ≡ Refusal.NoMemory) }
 {
     let mut seat = seat;
+    let mut jobs = 0u64;
     let mut installed = 0u64;
     let mut call = 0u32;
     for _turn in rt.forever() {
@@ -39,11 +40,13 @@ where
                 let done = compact(job);
                 gate.after(worker, call);
                 call = call.saturating_add(1);
+                jobs = jobs.saturating_add(1);
                 match done {
                     Ok(true) => installed = installed.saturating_add(1),
                     Ok(false) => {}
                     Err(_) => {
                         return Compacted {
+                            jobs,
                             installed,
                             seat,
                             fault: Some(Refusal::NoMemory),
@@ -60,6 +63,7 @@ where
         }
     }
     Compacted {
+        jobs,
         installed,
         seat,
         fault: None,

@@ -9,6 +9,9 @@ use tf_records::Refusal;
 pub struct Ended<H: Drop, J> {
     /// What it stored, also where it ended early.
     pub share: H,
+    /// How many pieces of its work it did, and how many entries they stored, 2^64 - 1 where they are more.
+    pub pieces: u64,
+    pub stored: u64,
     /// Its seat at the queue.
     pub seat: JobSeat<J>,
     /// Why it ended early: `NoMemory`.
@@ -18,6 +21,8 @@ pub struct Ended<H: Drop, J> {
 /// How a query worker ended.
 #[derive(Drop)]
 pub struct Asked {
+    /// How many questions it asked.
+    pub questions: u64,
     /// The rows of all its answers, 2^64 - 1 where they are more.
     pub rows: u64,
     /// Why it ended early: `NoMemory`.
@@ -27,6 +32,8 @@ pub struct Asked {
 /// How a compactor ended.
 #[derive(Drop)]
 pub struct Compacted<J> {
+    /// How many jobs it took.
+    pub jobs: u64,
     /// How many merged tables it installed, 2^64 - 1 where they are more.
     pub installed: u64,
     /// Its seat at the queue.
@@ -35,11 +42,24 @@ pub struct Compacted<J> {
     pub fault: Option<Refusal>,
 }
 
-/// What clients gave back.
+/// What a worker did. Each count is 2^64 - 1 where it is more.
+#[derive(Clone, Copy, PartialEq, Eq, Debug)]
+pub enum Done {
+    /// How many pieces of its work a client did, and how many entries they stored.
+    Client { pieces: u64, stored: u64 },
+    /// How many questions a query worker asked, and how many rows their answers have.
+    QueryWorker { questions: u64, rows: u64 },
+    /// How many jobs a compactor took, and how many merged tables it installed.
+    Compactor { jobs: u64, installed: u64 },
+}
+
+/// What clients gave back, and what all workers did.
 #[derive(Drop)]
 pub struct Joined<H: Drop> {
     /// The shares of all clients.
     pub shares: Vec<H, Global>,
+    /// What each worker did: clients, compactors and query workers, each kind by rising number.
+    pub done: Vec<Done, Global>,
     /// Whether no worker ended early for want of memory.
     pub complete: bool,
 }
@@ -59,6 +79,8 @@ impl From<AllocError> for WantOfMemory {
 pub struct Section<H: Drop, J: Drop> {
     /// The client's share.
     pub share: H,
+    /// How many entries were stored.
+    pub stored: u64,
     /// The jobs that were picked.
     pub jobs: Result<Vec<J, Global>, WantOfMemory>,
 }

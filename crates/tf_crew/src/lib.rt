@@ -18,7 +18,7 @@ mod start;
 pub use clients::client_by;
 pub use compactors::compactor_by;
 pub use crew::run_crew;
-pub use ended::{Answered, Asked, Compacted, Ended, Joined, Section, WantOfMemory};
+pub use ended::{Answered, Asked, Compacted, Done, Ended, Joined, Section, WantOfMemory};
 pub use faults::StormFault;
 pub use gate::{Gate, OpenGate};
 pub use query_workers::query_worker_by;

@@ -21,6 +21,7 @@ where
     ensures { IfSome result.fault (λ fault. fault ≡ Refusal.NoMemory) }
 {
     let mut reader = reader;
+    let mut asked = 0u64;
     let mut rows = 0u64;
     let mut call = 0u32;
     for question in 0..questions {
@@ -33,14 +34,22 @@ where
         gate.after(worker, call);
         call = call.saturating_add(1);
         match found {
-            Ok(more) => rows = rows.saturating_add(more),
+            Ok(more) => {
+                asked = asked.saturating_add(1);
+                rows = rows.saturating_add(more);
+            }
             Err(_) => {
                 return Asked {
+                    questions: asked,
                     rows,
                     fault: Some(Refusal::NoMemory),
                 };
             }
         }
     }
-    Asked { rows, fault: None }
+    Asked {
+        questions: asked,
+        rows,
+        fault: None,
+    }
 }

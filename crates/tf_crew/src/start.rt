@@ -8,7 +8,7 @@ use crate::compactors::compactor_by;
 use crate::crew::COMPACTORS;
 use crate::join::{join_clients, join_compactors, join_query_workers};
 use crate::query_workers::query_worker_by;
-use crate::{Answered, Gate, Joined, Section, StormFault, WantOfMemory};
+use crate::{Answered, Done, Gate, Joined, Section, StormFault, WantOfMemory};
 use std::alloc::Global;
 use std::marker::{Send, Sync};
 use std::sync::Wait;
@@ -54,6 +54,7 @@ where
             ensures { IfOk result (λ joined. vec_len joined.shares ≡ length scripts.entry.now) }
         {
             let room = Vec::with_capacity(alloc, scripts.len())?;
+            let done = Vec::with_capacity(alloc, scripts.len())?;
             let mut threads = Vec::with_capacity(alloc, scripts.len())?;
             let mut shares = shares;
             let mut seats = seats;
@@ -79,9 +80,21 @@ where
                     Err(_) => unreachable!(),
                 }
             }
-            Ok(join_clients(rt, room, threads))
+            Ok(join_clients(rt, room, done, threads))
         },
     )
+}
+
+/// What was joined, with what further workers did, and whether they were complete. It is incomplete where there is no memory for that.
+fn with_others<H: Drop>(joined: Joined<H>, others: Vec<Done, Global>, complete: bool) -> Joined<H>
+    ensures { vec_len result.shares ≡ vec_len joined.shares }
+{
+    let mut joined = joined;
+    joined.complete &= complete;
+    for other in others {
+        joined.complete &= joined.done.push(other).is_ok();
+    }
+    joined
 }
 
 /// Runs two compactors beside the clients. The queue is closed on every way out: once the clients are joined, and where a compactor
@@ -145,12 +158,10 @@ where
             }
             let joined = run_clients(rt, alloc, run, scripts, shares, queue, seats, gate);
             queue.close();
-            let merged = join_compactors(rt, threads);
+            let mut merges = Vec::new(alloc);
+            let merged = join_compactors(rt, &mut merges, threads);
             match joined {
-                Ok(Joined { shares, complete }) => Ok(Joined {
-                    shares,
-                    complete: complete && merged,
-                }),
+                Ok(joined) => Ok(with_others(joined, merges, merged)),
                 Err(fault) => Err(fault),
             }
         },
@@ -222,12 +233,10 @@ where
             let joined = run_compactors(
                 rt, alloc, run, compact, scripts, shares, queue, seats, first, gate,
             );
-            let asked = join_query_workers(rt, threads);
+            let mut answers = Vec::new(alloc);
+            let asked = join_query_workers(rt, &mut answers, threads);
             match joined {
-                Ok(Joined { shares, complete }) => Ok(Joined {
-                    shares,
-                    complete: complete && asked,
-                }),
+                Ok(joined) => Ok(with_others(joined, answers, asked)),
                 Err(fault) => Err(fault),
             }
         },

@@ -1,5 +1,5 @@
 //! What can be published.
-ghost use Rattle.std.specs.Prelude.{◌≡◌, List, IfErr, IfOk};
+ghost use Rattle.std.specs.Prelude.{◌≡◌, List, IfErr, IfOk, IsSomeAnd, OnOk};
 ghost use Rattle.tf_journal.specs.declared.entry.Entry.{Entry};
 ghost use Rattle.tf_readers.specs.Asked.{IsFound};
 
@@ -21,11 +21,12 @@ impl<A: Allocator, N: Naming> Shows for Version<A, N> {
 
 /// A value that shows a journal, has as many owners as are asked for, and is asked what the journal has.
 pub trait Publishable: Shows {
-    /// The same value, with one more owner. It takes no memory.
+    /// Puts the same value, with one more owner, into a place. It takes no memory.
     ///
-    /// It is refused only where there are 2^63 - 1 owners, of which contracts know nothing.
-    fn again(&self) -> Result<Self, AllocError>
-        ensures { IfOk result (λ copy. Self.journal copy ≡ Self.journal self.now) };
+    /// It is refused only where there are 2^63 - 1 owners, of which contracts know nothing. It takes a place and gives no value, since
+    /// whoever names a type for a trait has the whole layout of each value compared that a call gives by itself.
+    fn again_into(&self, place: &mut Option<Self>) -> Result<(), AllocError>
+        ensures { OnOk result (IsSomeAnd place.new (λ copy. Self.journal copy ≡ Self.journal self.now)) };
 
     /// The rows that are asked for: those of the query or the look-up on the journal. [`Refusal::NoMemory`] is the only
     /// refusal. It costs what the query does.
@@ -34,9 +35,22 @@ pub trait Publishable: Shows {
         ensures refusal { IfErr result (λ refusal. refusal ≡ Refusal.NoMemory) };
 }
 
+/// The same value, with one more owner. It takes no memory, and is refused only where there are 2^63 - 1 owners.
+pub(crate) fn again<V: Publishable + Drop>(version: &V) -> Result<V, AllocError>
+    ensures { IfOk result (λ copy. V.journal copy ≡ V.journal version.now) }
+{
+    let mut place = None;
+    version.again_into(&mut place)?;
+    match place {
+        Some(copy) => Ok(copy),
+        None => unreachable!(),
+    }
+}
+
 impl<A: Allocator, N: Naming> Publishable for Version<A, N> {
-    fn again(&self) -> Result<Self, AllocError> {
-        Version::again(self)
+    fn again_into(&self, place: &mut Option<Self>) -> Result<(), AllocError> {
+        *place = Some(self.again()?);
+        Ok(())
     }
 
     fn ask<B: Allocator + Copy>(&self, alloc: B, asked: &Asked) -> Result<Found<B>, Refusal> {

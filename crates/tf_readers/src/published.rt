@@ -2,7 +2,7 @@
 ghost use Rattle.std.specs.Prelude.{◌≡◌, IfOk};
 ghost use Rattle.tf_journal.specs.Lawful.{IsLawful};
 
-use crate::publishable::Publishable;
+use crate::publishable::{Publishable, again};
 use left_right::Absorb;
 use std::alloc::AllocError;
 use std::marker::Model;
@@ -52,14 +52,16 @@ impl<V: Publishable, S: HistoryName> Published<V, S> {
     {
         &self.front
     }
+}
 
+impl<V: Publishable + Drop, S: HistoryName> Published<V, S> {
     /// The same, with one more owner of the version. It takes no memory, and is refused only where the version has 2^63 - 1
     /// owners.
     pub fn again(&self) -> Result<Published<V, S>, AllocError>
         ensures { IfOk result (λ copy. copy ≡ self.now) }
     {
         Ok(Published {
-            version: self.version.again()?,
+            version: again(&self.version)?,
             front: self.front.again(),
         })
     }

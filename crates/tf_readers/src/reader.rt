@@ -5,7 +5,7 @@ ghost use Rattle.tf_history.specs.Beginning.{OneBegins, longer};
 ghost use Rattle.tf_journal.specs.Lawful.{IsLawful};
 ghost use Rattle.tf_readers.specs.Reader.{HasSeen};
 
-use crate::publishable::Publishable;
+use crate::publishable::{Publishable, again};
 use crate::published::Published;
 use left_right::ReadHandle;
 use std::alloc::Allocator;
@@ -60,7 +60,7 @@ impl<V: Publishable + Drop, A: Allocator, S: HistoryName> Reader<V, A, S> {
         ensures none { IfNone result (self.new ≡ self.old) }
     {
         let page = self.copies.enter()?;
-        let Ok(version) = page.version().again() else {
+        let Ok(version) = again(page.version()) else {
             return None;
         };
         if !self.known.reach(page.front()) {

@@ -74,3 +74,28 @@ fn batches_past_their_limits_are_refused_before_memory_is_taken(
 ) -> Result<(), Fail> {
     try_text(&rt, Fixture::USUAL, BATCHES)
 }
+
+/// After 64 publishes each of eleven rows is full. From then on a publish merges a run in each of them before it pushes a table there.
+const FULL_ROWS: &str = "\
+accounts | transfers 1 1 | publish: 2
+repeat 2 65 transfers N 1 | publish: 1
+count registered: 711
+repeat 65 69 transfers N 1 | publish: 1 | take | ask taken 0 now: 300 | let_taken
+count registered: 799";
+
+#[test]
+fn a_publish_merges_a_run_of_each_full_row(rt: HostRuntime) -> Result<(), Fail> {
+    try_text(&rt, Fixture::USUAL, FULL_ROWS)
+}
+
+/// The greatest batch is published at once, in a table for each row.
+const GREATEST: &str = "\
+ids 0
+accounts | transfers 1 8190 | publish: 2
+count registered: 18
+take | ask taken 0 now: 1000";
+
+#[test]
+fn the_greatest_batch_is_published_at_once(rt: HostRuntime) -> Result<(), Fail> {
+    try_text(&rt, Fixture::with_room(1 << 26), GREATEST)
+}

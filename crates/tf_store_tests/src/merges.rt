@@ -40,3 +40,17 @@ install: nothing";
 fn an_install_that_was_refused_memory_hands_its_table_back(rt: HostRuntime) -> Result<(), Fail> {
     try_text(&rt, Fixture::USUAL, HANDED_BACK)
 }
+
+/// Readers go on to refer to tables that merges retired until they are shown the merged ones. Then those of 200 transfers come back,
+/// beside the 43 KB of a version's references.
+const SHOWN: &str = "\
+accounts | transfers 1001 200 | publish: 2
+repeat 0 4 round N | publish: 2
+run compact
+note | show | freed: 80000 | same
+take | ask taken 0 now: 1000";
+
+#[test]
+fn what_merges_retired_comes_back_once_readers_are_shown_them(rt: HostRuntime) -> Result<(), Fail> {
+    try_text(&rt, Fixture::USUAL, SHOWN)
+}

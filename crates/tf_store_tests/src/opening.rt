@@ -244,32 +244,6 @@ where
     }
 }
 
-/// A new store that shows readers versions of type `V`, its shares, and its readers.
-type OpenedStore<T, V, A, S, R> = (
-    StoreOf<T, Copies<V, A, S, R>, A, S>,
-    Vec<Share<S>, A>,
-    Vec<Reader<V, A, S>, A>,
-);
-
-/// The same. It is generic in the version that readers are shown.
-fn with_versions<T, A, S, V, R>(
-    rt: &R,
-    alloc: A,
-    trial: &mut Trial<'_>,
-    opened: Result<OpenedStore<T, V, A, S, &R>, Refusal>,
-    course: Course<'_>,
-) -> Result<(), Refusal>
-where
-    T: SealRows<A> + Drop,
-    A: Allocator + Copy,
-    S: StoreName,
-    V: VersionOf<Version<A, S>> + Publishable + Drop,
-    R: Abort + AllocGlobal + Wait,
-    requires { S.parts ≡ 64 }
-{
-    with_copies(rt, alloc, trial, opened, course)
-}
-
 /// Runs a text on a store with 64 shares over these registries.
 fn with_rows<T, A, S, R>(
     rt: &R,
@@ -290,11 +264,36 @@ where
     requires history { blank.history ≡ S.history }
     requires registries { AreShelves S.shelf registries.now }
 {
-    with_versions::<T, A, S, Version<A, S>, R>(
+    with_versions::<T, A, S, Version<A, S>, R>(rt, alloc, trial, registries, blank, course)
+}
+
+/// The same. It is generic in the version that readers are shown, which is named where no store is.
+fn with_versions<T, A, S, V, R>(
+    rt: &R,
+    alloc: A,
+    trial: &mut Trial<'_>,
+    registries: &Registries<A>,
+    blank: BlankStore,
+    course: Course<'_>,
+) -> Result<(), Refusal>
+where
+    T: EmptyRows<A> + SealRows<A> + Drop,
+    A: Allocator + Copy,
+    S: StoreName,
+    V: VersionOf<Version<A, S>> + Publishable + Drop,
+    R: Abort + AllocGlobal + Wait,
+    requires fits { FitsRows T.row }
+    requires name { blank.ledger.name ≡ S.name }
+    requires parts { (blank.ledger.parts ≡ S.parts) × (S.parts ≡ 64) }
+    requires history { blank.history ≡ S.history }
+    requires registries { AreShelves S.shelf registries.now }
+{
+    let readers = course.fixture.readers;
+    with_copies(
         rt,
         alloc,
         trial,
-        Store::new(alloc, rt, registries, blank, SHARES, course.fixture.readers),
+        StoreOf::<T, Copies<V, A, S, &R>, A, S>::new(alloc, rt, registries, blank, SHARES, readers),
         course,
     )
 }

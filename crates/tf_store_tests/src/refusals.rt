@@ -15,13 +15,13 @@ fn a_store_is_not_opened_without_memory(rt: HostRuntime) -> Result<(), Fail> {
     try_text(&rt, fixture, UNOPENED)
 }
 
-/// On a heap that has no byte left, a publish hands out the receipts of batches that stored nothing, another one hands out none,
-/// and a version is taken.
+/// On a heap that has no byte left, a publish hands out the receipts of batches that stored nothing, another one hands out none, a
+/// version is taken, and a reader is given one and follows.
 const IDLE: &str = "\
 accounts | transfers 1 1 | publish: 2
 transfers 1 1 | run accounts 0; end
-fill 0 | publish: 2 | publish: 0 | take | free
-ask taken 0 now: 10";
+fill 0 | publish: 2 | publish: 0 | take | give 0 | follow 0 | free
+ask taken 0 now: 10 | ask given 0 now: 10 | ask held 0 now: 10";
 
 #[test]
 fn a_publish_where_nothing_was_stored_takes_no_memory(rt: HostRuntime) -> Result<(), Fail> {

@@ -7,10 +7,12 @@
 mod faults;
 mod files;
 mod opening;
-mod readers;
+mod reports;
 mod storms;
 mod tasks;
 
 pub use faults::RunStormFault;
 pub use files::storm_files;
-pub use storms::run_storm;
+pub use reports::write_reports;
+pub use storms::{Storm, run_storm};
+pub use tf_workers::Done;

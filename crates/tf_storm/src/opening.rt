@@ -6,7 +6,6 @@ ghost use Rattle.tf_store.specs.Rooms.{FitsRows};
 ghost use Rattle.tf_storm.specs.Storm.{AreTotals, IsBook, StopsWorking};
 
 use crate::faults::RunStormFault;
-use crate::readers::asked_readers;
 use crate::tasks::Tasks;
 use std::alloc::Global;
 use std::marker::{Brand, Send, Sync};
@@ -18,8 +17,11 @@ use tf_query::Version;
 use tf_readers::{Copies, Publishable, Reader};
 use tf_records::Refusal;
 use tf_rows::{EmptyRows, MutableTables, SealRows};
-use tf_store::{BlankStore, Share, Store, StoreName, StoreOf, VersionCopies, VersionOf};
-use tf_workers::{Gate, StormFault, Totals, storm};
+use tf_store::{BlankStore, Share, StoreName, StoreOf, VersionCopies, VersionOf};
+use tf_workers::{Done, Gate, StormFault, Totals, storm};
+
+/// What a storm counted, and what each of its workers did.
+pub(crate) type Counted = (Totals, Vec<Done, Global>);
 
 /// Runs the tasks of a storm over a store with registries of its own, and tells what was counted. What is stored is what the
 /// clients' shares count together.
@@ -28,13 +30,13 @@ pub(crate) fn run_tasks<R, G>(
     alloc: Global,
     tasks: &Tasks,
     gate: &G,
-) -> Result<Totals, RunStormFault>
+) -> Result<Counted, RunStormFault>
 where
     R: Wait + Threads + Sync,
     G: Gate + Sync,
     requires few { (0 < vec_len tasks.now.works) × (vec_len tasks.now.works ≤ 64) }
     requires asks { vec_len tasks.now.asks ≡ 2 }
-    ensures { MatchResult result (λ totals. AreTotals (vec_len tasks.now.works) totals) StopsWorking }
+    ensures { MatchResult result (λ counted. AreTotals (vec_len tasks.now.works) counted.0) StopsWorking }
 {
     let shares = tasks.works.len() as u32;
     match Registries::new(alloc) {
@@ -58,7 +60,7 @@ fn with_name<S, R, G>(
     blank: BlankStore,
     tasks: &Tasks,
     gate: &G,
-) -> Result<Totals, RunStormFault>
+) -> Result<Counted, RunStormFault>
 where
     S: StoreName + Send + Sync,
     R: Wait + Threads + Sync,
@@ -69,12 +71,12 @@ where
     requires parts { (blank.ledger.parts ≡ S.parts) × (S.parts ≡ vec_len tasks.now.works) }
     requires history { blank.history ≡ S.history }
     requires registries { AreShelves S.shelf registries.now }
-    ensures { MatchResult result (λ totals. AreTotals (vec_len tasks.now.works) totals) StopsWorking }
+    ensures { MatchResult result (λ counted. AreTotals (vec_len tasks.now.works) counted.0) StopsWorking }
 {
     with_rows::<MutableTables<Global>, S, R, G>(rt, alloc, registries, blank, tasks, gate)
 }
 
-/// Makes a store with a share for each client and two readers, and runs tasks over it.
+/// Runs tasks over a store with mutable tables of type `T`.
 fn with_rows<T, S, R, G>(
     rt: &R,
     alloc: Global,
@@ -82,7 +84,7 @@ fn with_rows<T, S, R, G>(
     blank: BlankStore,
     tasks: &Tasks,
     gate: &G,
-) -> Result<Totals, RunStormFault>
+) -> Result<Counted, RunStormFault>
 where
     T: EmptyRows<Global> + SealRows<Global> + Send + Drop,
     S: StoreName + Send + Sync,
@@ -95,45 +97,46 @@ where
     requires parts { (blank.ledger.parts ≡ S.parts) × (S.parts ≡ vec_len tasks.now.works) }
     requires history { blank.history ≡ S.history }
     requires registries { AreShelves S.shelf registries.now }
-    ensures { MatchResult result (λ totals. AreTotals (vec_len tasks.now.works) totals) StopsWorking }
+    ensures { MatchResult result (λ counted. AreTotals (vec_len tasks.now.works) counted.0) StopsWorking }
 {
-    storm_versions::<T, S, Version<Global, S>, R, G>(
-        rt,
-        alloc,
-        Store::new(alloc, rt, registries, blank, tasks.works.len() as u32, 2),
-        tasks,
-        gate,
-    )
+    with_versions::<T, S, Version<Global, S>, R, G>(rt, alloc, registries, blank, tasks, gate)
 }
 
-/// A new store that shows readers versions of type `V`, its shares, and its readers.
-type OpenedStore<T, V, S, R> = (
-    StoreOf<T, Copies<V, Global, S, R>, Global, S>,
-    Vec<Share<S>, Global>,
-    Vec<Reader<V, Global, S>, Global>,
-);
-
-/// Runs tasks over a new store, if there was memory for it. It is generic in the version that readers are shown.
-fn storm_versions<T, S, V, R, G>(
+/// Makes a store with a share for each client and two readers, and runs tasks over it. It is generic in the version that readers are
+/// shown, which is named where no store is.
+fn with_versions<T, S, V, R, G>(
     rt: &R,
     alloc: Global,
-    opened: Result<OpenedStore<T, V, S, &R>, Refusal>,
+    registries: &Registries<Global>,
+    blank: BlankStore,
     tasks: &Tasks,
     gate: &G,
-) -> Result<Totals, RunStormFault>
+) -> Result<Counted, RunStormFault>
 where
-    T: SealRows<Global> + Send + Drop,
+    T: EmptyRows<Global> + SealRows<Global> + Send + Drop,
     S: StoreName + Send + Sync,
     V: VersionOf<Version<Global, S>> + Publishable + Send + Sync + Drop,
     R: Wait + Threads + Sync,
     G: Gate + Sync,
+    requires fits { FitsRows T.row }
     requires few { (0 < vec_len tasks.now.works) × (vec_len tasks.now.works ≤ 64) }
     requires asks { vec_len tasks.now.asks ≡ 2 }
-    requires readers { IfOk opened (λ o. vec_len o.2 ≤ 2) }
-    requires shares { IfOk opened (λ o. (vec_len o.1 ≡ vec_len tasks.now.works) × (vec_len o.1 ≡ S.parts)) }
-    ensures { MatchResult result (λ totals. AreTotals (vec_len tasks.now.works) totals) StopsWorking }
+    requires name { blank.ledger.name ≡ S.name }
+    requires parts { (blank.ledger.parts ≡ S.parts) × (S.parts ≡ vec_len tasks.now.works) }
+    requires history { blank.history ≡ S.history }
+    requires registries { AreShelves S.shelf registries.now }
+    ensures { MatchResult result (λ counted. AreTotals (vec_len tasks.now.works) counted.0) StopsWorking }
 {
-    storm_opened(rt, alloc, opened, tasks, gate)
+    let shares = tasks.works.len() as u32;
+    storm_opened(
+        rt,
+        alloc,
+        StoreOf::<T, Copies<V, Global, S, &R>, Global, S>::new(
+            alloc, rt, registries, blank, shares, 2,
+        ),
+        tasks,
+        gate,
+    )
 }
 
 /// Runs tasks over a new store, if there was memory for it. It is generic in what readers enter.
@@ -150,7 +153,7 @@ fn storm_opened<T, S, C, V, R, G>(
     >,
     tasks: &Tasks,
     gate: &G,
-) -> Result<Totals, RunStormFault>
+) -> Result<Counted, RunStormFault>
 where
     T: SealRows<Global> + Send + Drop,
     S: StoreName + Send + Sync,
@@ -162,23 +165,16 @@ where
     requires asks { vec_len tasks.now.asks ≡ 2 }
     requires readers { IfOk opened (λ o. vec_len o.2 ≤ 2) }
     requires shares { IfOk opened (λ o. (vec_len o.1 ≡ vec_len tasks.now.works) × (vec_len o.1 ≡ S.parts)) }
-    ensures { MatchResult result (λ totals. AreTotals (vec_len tasks.now.works) totals) StopsWorking }
+    ensures { MatchResult result (λ counted. AreTotals (vec_len tasks.now.works) counted.0) StopsWorking }
 {
     let (store, shares, readers) = match opened {
         Ok(opened) => opened,
         Err(_) => return Err(RunStormFault::Run(RunFault::NoMemory)),
     };
-    let readers = match asked_readers(alloc, readers) {
-        Ok(readers) => readers,
-        Err(_) => {
-            drop(store);
-            return Err(RunStormFault::Run(RunFault::NoMemory));
-        }
-    };
     let works = tasks.works.as_slice();
     let asks = tasks.asks.as_slice();
     match storm(rt, alloc, alloc, store, shares, readers, works, asks, gate) {
-        Ok((store, totals)) => Ok(settled(&store, totals)),
+        Ok((store, totals, done)) => Ok((settled(&store, totals), done)),
         Err(StormFault::NoMemory) => Err(RunStormFault::Run(RunFault::NoMemory)),
         Err(StormFault::NoThread) => Err(RunStormFault::NoThread),
     }

@@ -11,7 +11,16 @@ use std::marker::Sync;
 use std::sync::Wait;
 use std::thread::Threads;
 use tf_main::{RunFault, write_totals};
-use tf_workers::Gate;
+use tf_workers::{Done, Gate};
+
+/// A storm that told its totals.
+#[derive(Drop)]
+pub struct Storm {
+    /// Whether no worker ended early for want of memory.
+    pub complete: bool,
+    /// What each worker did: clients, compactors and query workers, each kind by rising number.
+    pub done: Vec<Done, Global>,
+}
 
 /// Runs 1 to 64 scripts over an empty store, all at once, each by a client of its own, with two query workers and two compactors
 /// beside them, and writes three lines: how many clients there were, how many entries are stored, and the sum of the clients'
@@ -22,7 +31,8 @@ use tf_workers::Gate;
 /// is a batch, a pulse, a publish or a look-up that is refused otherwise than for want of memory. In a storm of `n` scripts client
 /// `i` is worker `i`, the query workers are `n` and `n + 1`, the compactors `n + 2` and `n + 3`.
 ///
-/// False where a worker ended early for want of memory: the three lines are written then too. It may wait.
+/// The storm that it gives isn't complete where a worker ended early for want of memory: the three lines are written then too. It may
+/// wait.
 ///
 /// # Errors
 ///
@@ -36,7 +46,7 @@ pub fn run_storm<R, G, W>(
     scripts: &[Vec<u8>],
     gate: &G,
     out: &mut W,
-) -> Result<bool, RunStormFault>
+) -> Result<Storm, RunStormFault>
 where
     R: Wait + Threads + Sync,
     G: Gate + Sync,
@@ -49,12 +59,15 @@ where
         Ok(tasks) => tasks,
         Err(fault) => return Err(fault),
     };
-    let totals = match run_tasks(rt, alloc, &tasks, gate) {
-        Ok(totals) => totals,
+    let (totals, done) = match run_tasks(rt, alloc, &tasks, gate) {
+        Ok(counted) => counted,
         Err(fault) => return Err(fault),
     };
     match write_totals(totals.clients, totals.stored, totals.shares, out) {
-        Ok(()) => Ok(totals.complete),
+        Ok(()) => Ok(Storm {
+            complete: totals.complete,
+            done,
+        }),
         Err(error) => Err(RunStormFault::Run(RunFault::CannotWrite(error))),
     }
 }

@@ -35,7 +35,8 @@ pub fn call<R: Files + AllocGlobal + Wait + Threads + Sync>(
         }
     }
     let ending = if is_storm {
-        storm_files(rt, names, &mut written)
+        let (ending, _done) = storm_files(rt, names, &mut written);
+        ending
     } else {
         Ending::Usage
     };

@@ -2,7 +2,7 @@
 ghost use Rattle.std.specs.Prelude.{◌≡◌, IfSome};
 
 use crate::Work;
-use crate::desk::{WorkerDesk, section_at};
+use crate::desk::{Critical, Desk};
 use crate::shared::SharedStore;
 use std::alloc::Global;
 use std::sync::{Mutex, Wait};
@@ -14,28 +14,29 @@ use tf_records::Refusal;
 use tf_rows::SealRows;
 use tf_store::{Share, StoreName, VersionCopies};
 
-/// Does so many pieces of a client's work, each in a critical section of its own.
-fn client_at<T, C, S, R, G>(
-    desk: &WorkerDesk<'_, T, C, Global, S, R>,
-    queue: &JobQueue<Job<Global, S>>,
-    seat: JobSeat<Job<Global, S>>,
-    pieces: usize,
-    share: Share<S>,
+/// Does a client's work, each piece in a critical section of its own. What it does there is given.
+fn client_at<H, J, D, R, G>(
+    rt: &R,
+    desk: &D,
+    queue: &JobQueue<J>,
+    seat: JobSeat<J>,
+    work: &[Work],
+    share: H,
     worker: u32,
     gate: &G,
-) -> Ended<Share<S>, Job<Global, S>>
+) -> Ended<H, J>
 where
-    T: SealRows<Global> + Drop,
-    C: VersionCopies<Version<Global, S>, S> + Drop,
-    S: StoreName,
+    H: Drop,
+    J: Drop,
+    D: Critical<H, J>,
     R: Wait,
     G: Gate,
     requires { seat.queue ≡ queue.now.number }
     ensures seat { (result.seat.queue ≡ seat.queue) × (result.seat.seats ≡ seat.seats) × (result.seat.taken ≡ seat.taken) }
     ensures fault { IfSome result.fault (λ fault. fault ≡ Refusal.NoMemory) }
 {
-    let run = |_worker: u32, piece: usize, share: Share<S>| section_at(desk, piece, share);
-    client_by(desk.rt, &run, pieces, share, queue, seat, worker, gate)
+    let run = |_worker: u32, piece: usize, share: H| desk.section(work.get(piece), share);
+    client_by(rt, &run, work.len(), share, queue, seat, worker, gate)
 }
 
 /// Does a client's work, one piece after another, each in a critical section of its own: a batch or a pulse, then a publish, and
@@ -67,12 +68,11 @@ where
     ensures seat { (result.seat.queue ≡ seat.queue) × (result.seat.seats ≡ seat.seats) × (result.seat.taken ≡ seat.taken) }
     ensures fault { IfSome result.fault (λ fault. fault ≡ Refusal.NoMemory) }
 {
-    let desk = WorkerDesk {
+    let desk = Desk {
         rt,
-        lists: alloc,
         alloc,
+        lists: alloc,
         store,
-        work,
     };
-    client_at(&desk, queue, seat, work.len(), share, worker, gate)
+    client_at(rt, &desk, queue, seat, work, share, worker, gate)
 }

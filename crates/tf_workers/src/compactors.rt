@@ -2,17 +2,18 @@
 ghost use Rattle.std.specs.Prelude.{◌≡◌, ◌+◌, ◌≤◌, length, false, true, IfSome, MatchResult, Ok, OnOk};
 ghost use Rattle.tf_registry.specs.Install.{IfNoMemory, OnFull, OnStale};
 
-use crate::desk::{WorkerDesk, compact_at};
+use crate::desk::{Critical, Desk};
 use crate::shared::SharedStore;
 use std::alloc::{Allocator, Global};
 use std::sync::{Mutex, Wait};
 use tf_crew::{Compacted, Gate, WantOfMemory, compactor_by};
 use tf_jobs::{JobQueue, JobSeat};
 use tf_manifest::{Job, Merged};
+use tf_query::Version;
 use tf_records::Refusal;
 use tf_registry::Uninstalled;
-use tf_rows::MutableRows;
-use tf_store::{StoreName, StoreOf, StoredCopies};
+use tf_rows::{MutableRows, SealRows};
+use tf_store::{Share, StoreName, StoreOf, StoredCopies, VersionCopies};
 
 /// Whether a merged table stands in the place of its run.
 fn was_installed<M: Drop>(outcome: Result<(), Uninstalled<M>>) -> Result<bool, WantOfMemory>
@@ -97,18 +98,19 @@ where
     done
 }
 
-/// Takes jobs from the queue, and merges and installs each.
-fn compactor_at<T, C, S, R, G>(
-    desk: &WorkerDesk<'_, T, C, Global, S, R>,
-    queue: &JobQueue<Job<Global, S>>,
-    seat: JobSeat<Job<Global, S>>,
+/// Takes jobs from the queue, and merges and installs each. How is given.
+fn compactor_at<H, J, D, R, G>(
+    rt: &R,
+    desk: &D,
+    queue: &JobQueue<J>,
+    seat: JobSeat<J>,
     worker: u32,
     gate: &G,
-) -> Compacted<Job<Global, S>>
+) -> Compacted<J>
 where
-    T: MutableRows + Drop,
-    C: StoredCopies + Drop,
-    S: StoreName,
+    H: Drop,
+    J: Drop,
+    D: Critical<H, J>,
     R: Wait,
     G: Gate,
     requires { seat.queue ≡ queue.now.number }
@@ -116,8 +118,8 @@ where
     ensures installed { result.installed + length seat.taken ≤ length result.seat.taken }
     ensures fault { IfSome result.fault (λ fault. fault ≡ Refusal.NoMemory) }
 {
-    let merge = |job: Job<Global, S>| compact_at(desk, job);
-    compactor_by(desk.rt, &merge, queue, seat, worker, gate)
+    let merge = |job: J| desk.merge(job);
+    compactor_by(rt, &merge, queue, seat, worker, gate)
 }
 
 /// Takes jobs from the queue, merges each outside the lock and installs what it merged under it, until it read that the queue is
@@ -135,8 +137,8 @@ pub fn compactor<'a, T, C, S, R, G>(
     gate: &G,
 ) -> Compacted<Job<Global, S>>
 where
-    T: MutableRows + Drop,
-    C: StoredCopies + Drop,
+    T: SealRows<Global> + Drop,
+    C: VersionCopies<Version<Global, S>, S> + Drop,
     S: StoreName,
     R: Wait,
     G: Gate,
@@ -145,12 +147,11 @@ where
     ensures installed { result.installed + length seat.taken ≤ length result.seat.taken }
     ensures fault { IfSome result.fault (λ fault. fault ≡ Refusal.NoMemory) }
 {
-    let desk = WorkerDesk {
+    let desk = Desk {
         rt,
-        lists: alloc,
         alloc,
+        lists: alloc,
         store,
-        work: &[],
     };
-    compactor_at(&desk, queue, seat, worker, gate)
+    compactor_at::<Share<S>, Job<Global, S>, _, R, G>(rt, &desk, queue, seat, worker, gate)
 }

@@ -1,4 +1,4 @@
-//! The desk of a worker by itself: what it has beside what it is given at each call.
+//! What clients and compactors do with a store.
 
 use crate::Work;
 use crate::compactors::compact;
@@ -12,9 +12,19 @@ use tf_query::Version;
 use tf_rows::{MutableRows, SealRows};
 use tf_store::{Share, StoreName, StoredCopies, VersionCopies};
 
-/// The lock of a store, and all else that the closure of a worker needs: it captures this one struct.
+/// What clients and compactors do, each at one call. What runs them knows a store by this alone: closures over its own type are past
+/// the limit of steps of their check.
+pub(crate) trait Critical<H: Drop, J: Drop> {
+    /// One critical section of a client, for a piece of its work, if there is one.
+    fn section(&self, work: Option<&Work>, share: H) -> Section<H, J>;
+
+    /// Merges a job and installs what it merged. Tells whether it stands there.
+    fn merge(&self, job: J) -> Result<bool, WantOfMemory>;
+}
+
+/// What a worker has beside what it is given at each call: the lock of a store, and where memory is taken.
 #[derive(Drop)]
-pub(crate) struct WorkerDesk<'a, T, C, A, S, R>
+pub(crate) struct Desk<'a, T, C, A, S, R>
 where
     T: MutableRows + Drop,
     C: StoredCopies + Drop,
@@ -22,47 +32,25 @@ where
     S: StoreName,
 {
     pub(crate) rt: &'a R,
-    pub(crate) lists: Global,
+    /// What the store takes lies here.
     pub(crate) alloc: A,
+    /// What threads share beside it lies here.
+    pub(crate) lists: Global,
     pub(crate) store: &'a Mutex<SharedStore<T, C, A, S>>,
-    /// What a client is to do.
-    pub(crate) work: &'a [Work],
 }
 
-/// One critical section of a client, for the piece of its work of this number.
-pub(crate) fn section_at<T, C, A, S, R>(
-    desk: &WorkerDesk<'_, T, C, A, S, R>,
-    number: usize,
-    share: Share<S>,
-) -> Section<Share<S>, Job<A, S>>
+impl<T, C, S, R> Critical<Share<S>, Job<Global, S>> for Desk<'_, T, C, Global, S, R>
 where
-    T: SealRows<A> + Drop,
-    C: VersionCopies<Version<A, S>, S> + Drop,
-    A: Allocator + Copy,
+    T: SealRows<Global> + Drop,
+    C: VersionCopies<Version<Global, S>, S> + Drop,
     S: StoreName,
     R: Wait,
 {
-    section(
-        desk.rt,
-        desk.alloc,
-        desk.lists,
-        desk.store,
-        desk.work.get(number),
-        share,
-    )
-}
+    fn section(&self, work: Option<&Work>, share: Share<S>) -> Section<Share<S>, Job<Global, S>> {
+        section(self.rt, self.alloc, self.lists, self.store, work, share)
+    }
 
-/// What a compactor does with one job.
-pub(crate) fn compact_at<T, C, A, S, R>(
-    desk: &WorkerDesk<'_, T, C, A, S, R>,
-    job: Job<A, S>,
-) -> Result<bool, WantOfMemory>
-where
-    T: MutableRows + Drop,
-    C: StoredCopies + Drop,
-    A: Allocator + Copy,
-    S: StoreName,
-    R: Wait,
-{
-    compact(desk.rt, desk.alloc, desk.store, job)
+    fn merge(&self, job: Job<Global, S>) -> Result<bool, WantOfMemory> {
+        compact(self.rt, self.alloc, self.store, job)
+    }
 }

@@ -20,6 +20,6 @@ pub use compactors::compactor;
 pub use query_workers::{VersionReader, query_worker};
 pub use shared::SharedStore;
 pub use storms::{Totals, storm};
-pub use tf_crew::{Asked, Compacted, Ended, Gate, OpenGate, StormFault};
+pub use tf_crew::{Asked, Compacted, Done, Ended, Gate, OpenGate, StormFault};
 pub use tf_jobs::{JobQueue, JobSeat, Reckoning, reckon};
 pub use work::{Ask, Work};

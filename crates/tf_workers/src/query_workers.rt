@@ -1,15 +1,12 @@
 //! Query workers.
-ghost use Rattle.std.specs.Prelude.{◌≡◌, length, Err, IfErr, IfOk, IfSome, MatchResult, Ok};
-ghost use Rattle.tf_journal.specs.Answer.{looked_up_accounts, looked_up_transfers};
-ghost use Rattle.tf_workers.specs.Asks.{counted, row_count_of};
+ghost use Rattle.std.specs.Prelude.{◌≡◌, IfErr, IfOk, IfSome, Ok};
+ghost use Rattle.tf_workers.specs.Asks.{row_count_of};
 
 use crate::Ask;
 use std::alloc::{Allocator, Global};
-use tf_crew::{Answered, Asked, Gate, WantOfMemory, query_worker_by};
-use tf_query::Version;
-use tf_readers::Reader;
+use tf_crew::{Answered, Asked as Counted, Gate, WantOfMemory, query_worker_by};
+use tf_readers::{Asked, Found, Publishable, Reader};
 use tf_records::{BATCH_MAX, Refusal};
-use tf_registry::Naming;
 use tf_store::StoreName;
 
 /// A reader, as query workers see it. It takes no lock.
@@ -22,7 +19,7 @@ pub trait VersionReader {
         ensures { IfErr result (λ refusal. refusal ≡ Refusal.NoMemory) };
 }
 
-impl<A: Allocator, S: StoreName> VersionReader for Reader<Version<A, S>, A, S> {
+impl<V: Publishable + Drop, A: Allocator, S: StoreName> VersionReader for Reader<V, A, S> {
     fn count_rows(&mut self, alloc: Global, ask: &Ask) -> Result<u64, Refusal> {
         match self.latest() {
             Some(version) => rows_of(alloc, &version, ask),
@@ -31,63 +28,65 @@ impl<A: Allocator, S: StoreName> VersionReader for Reader<Version<A, S>, A, S> {
     }
 }
 
-/// How many rows there are.
-fn count<T: Drop>(rows: Result<Vec<T, Global>, Refusal>) -> Result<u64, Refusal>
-    ensures { MatchResult rows (λ rows. result ≡ Ok (length rows.items)) (λ refusal. result ≡ Err refusal) }
+/// How many rows a version answers: none where more than `BATCH_MAX` ids are asked for. `NoMemory` is the only refusal.
+fn rows_of<V: Publishable>(alloc: Global, version: &V, ask: &Ask) -> Result<u64, Refusal>
+    ensures { IfErr result (λ refusal. refusal ≡ Refusal.NoMemory) }
 {
-    match rows {
-        Ok(rows) => Ok(rows.len() as u64),
+    match ask {
+        Ask::AccountTransfers(filter) => count(alloc, version, &Asked::AccountTransfers(*filter)),
+        Ask::AccountBalances(filter) => count(alloc, version, &Asked::AccountBalances(*filter)),
+        Ask::QueryAccounts(filter) => count(alloc, version, &Asked::Accounts(*filter)),
+        Ask::QueryTransfers(filter) => count(alloc, version, &Asked::Transfers(*filter)),
+        Ask::Accounts(ids) => count_accounts(alloc, version, ids.as_slice()),
+        Ask::Transfers(ids) => count_transfers(alloc, version, ids.as_slice()),
+    }
+}
+
+/// How many rows a version answers to one query or to a look-up of one id.
+fn count<V: Publishable>(alloc: Global, version: &V, asked: &Asked) -> Result<u64, Refusal>
+    ensures rows { IfOk result (λ rows. rows ≡ row_count_of (V.journal version.now) asked.now) }
+    ensures refusal { IfErr result (λ refusal. refusal ≡ Refusal.NoMemory) }
+{
+    match version.ask(alloc, asked) {
+        Ok(Found::Transfers(rows)) => Ok(rows.len() as u64),
+        Ok(Found::Balances(rows)) => Ok(rows.len() as u64),
+        Ok(Found::Accounts(rows)) => Ok(rows.len() as u64),
         Err(refusal) => Err(refusal),
     }
 }
 
-/// How many rows a version answers: none where more than `BATCH_MAX` ids are asked for. `NoMemory` is the only refusal.
-fn rows_of<A: Allocator, N: Naming>(
-    alloc: Global,
-    version: &Version<A, N>,
-    ask: &Ask,
-) -> Result<u64, Refusal>
-    ensures rows { IfOk result (λ rows. rows ≡ row_count_of version.now ask.now) }
-    ensures refusal { IfErr result (λ refusal. refusal ≡ Refusal.NoMemory) }
-{
-    match ask {
-        Ask::AccountTransfers(filter) => count(version.get_account_transfers(alloc, filter)),
-        Ask::AccountBalances(filter) => count(version.get_account_balances(alloc, filter)),
-        Ask::QueryAccounts(filter) => count(version.query_accounts(alloc, filter)),
-        Ask::QueryTransfers(filter) => count(version.query_transfers(alloc, filter)),
-        Ask::Accounts(ids) => accounts_with(alloc, version, ids.as_slice()),
-        Ask::Transfers(ids) => transfers_with(alloc, version, ids.as_slice()),
-    }
-}
-
-/// How many accounts have these ids, 0 where more than `BATCH_MAX` are asked for.
-fn accounts_with<A: Allocator, N: Naming>(
-    alloc: Global,
-    version: &Version<A, N>,
-    ids: &[u128],
-) -> Result<u64, Refusal>
-    ensures rows { IfOk result (λ rows. rows ≡ counted ids.now (looked_up_accounts version.now ids.now)) }
-    ensures refusal { IfErr result (λ refusal. refusal ≡ Refusal.NoMemory) }
+/// How many accounts have these ids, which are looked up one by one: 0 where more than `BATCH_MAX` are asked for.
+fn count_accounts<V: Publishable>(alloc: Global, version: &V, ids: &[u128]) -> Result<u64, Refusal>
+    ensures { IfErr result (λ refusal. refusal ≡ Refusal.NoMemory) }
 {
     if ids.len() > BATCH_MAX as usize {
         return Ok(0);
     }
-    count(version.lookup_accounts(alloc, ids))
+    let mut rows = 0u64;
+    for id in ids {
+        match count(alloc, version, &Asked::AccountWithId(*id)) {
+            Ok(more) => rows = rows.saturating_add(more),
+            Err(refusal) => return Err(refusal),
+        }
+    }
+    Ok(rows)
 }
 
-/// How many transfers have these ids, 0 where more than `BATCH_MAX` are asked for.
-fn transfers_with<A: Allocator, N: Naming>(
-    alloc: Global,
-    version: &Version<A, N>,
-    ids: &[u128],
-) -> Result<u64, Refusal>
-    ensures rows { IfOk result (λ rows. rows ≡ counted ids.now (looked_up_transfers version.now ids.now)) }
-    ensures refusal { IfErr result (λ refusal. refusal ≡ Refusal.NoMemory) }
+/// How many transfers have these ids, which are looked up one by one: 0 where more than `BATCH_MAX` are asked for.
+fn count_transfers<V: Publishable>(alloc: Global, version: &V, ids: &[u128]) -> Result<u64, Refusal>
+    ensures { IfErr result (λ refusal. refusal ≡ Refusal.NoMemory) }
 {
     if ids.len() > BATCH_MAX as usize {
         return Ok(0);
     }
-    count(version.lookup_transfers(alloc, ids))
+    let mut rows = 0u64;
+    for id in ids {
+        match count(alloc, version, &Asked::TransferWithId(*id)) {
+            Ok(more) => rows = rows.saturating_add(more),
+            Err(refusal) => return Err(refusal),
+        }
+    }
+    Ok(rows)
 }
 
 /// Asks a reader, if there is something to ask. A reader's only refusal is `NoMemory`.
@@ -133,7 +132,7 @@ pub(crate) fn answer_of_list<Q: VersionReader + Drop>(
 ///
 /// What there is no version for is passed over, as is a look-up of more than `BATCH_MAX` ids. It ends early only for want of memory.
 /// It takes no lock and waits for nobody.
-pub fn query_worker<Q, G>(alloc: Global, reader: Q, asks: &[Ask], worker: u32, gate: &G) -> Asked
+pub fn query_worker<Q, G>(alloc: Global, reader: Q, asks: &[Ask], worker: u32, gate: &G) -> Counted
 where
     Q: VersionReader + Drop,
     G: Gate,

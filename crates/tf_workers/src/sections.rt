@@ -172,42 +172,15 @@ where
     R: Wait,
 {
     let mut share = share;
+    let before = share.count();
     let jobs = match work {
         Some(work) => work_once(rt, alloc, lists, store, work, &mut share),
         None => Ok(Vec::new(lists)),
     };
-    Section { share, jobs }
-}
-
-/// The piece of this number of the work of the client with this one.
-fn piece(scripts: &[Vec<Work>], worker: u32, number: usize) -> Option<&Work> {
-    scripts.get(worker as usize)?.as_slice().get(number)
-}
-
-/// A critical section for a piece of a script.
-pub(crate) fn section_of_script<T, C, A, S, R>(
-    rt: &R,
-    alloc: A,
-    lists: Global,
-    store: &Mutex<SharedStore<T, C, A, S>>,
-    scripts: &[Vec<Work>],
-    place: (u32, usize),
-    share: Share<S>,
-) -> Section<Share<S>, Job<A, S>>
-where
-    T: SealRows<A> + Drop,
-    C: VersionCopies<Version<A, S>, S> + Drop,
-    A: Allocator + Copy,
-    S: StoreName,
-    R: Wait,
-{
-    let (worker, number) = place;
-    section(
-        rt,
-        alloc,
-        lists,
-        store,
-        piece(scripts, worker, number),
+    let stored = share.count().saturating_sub(before);
+    Section {
         share,
-    )
+        stored,
+        jobs,
+    }
 }

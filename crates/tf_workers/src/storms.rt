@@ -2,18 +2,16 @@
 ghost use Rattle.std.specs.Prelude.{◌≡◌, ◌<◌, ◌≤◌, length, vec_len, IfOk};
 ghost use Rattle.tf_store.specs.Book.{book_of};
 
-use crate::compactors::compact;
+use crate::desk::{Critical, Desk};
 use crate::query_workers::answer_of_list;
-use crate::sections::section_of_script;
 use crate::shared::SharedStore;
 use crate::{Ask, VersionReader, Work};
 use std::alloc::{Allocator, Global};
 use std::marker::{Send, Sync};
 use std::sync::{Mutex, Wait};
 use std::thread::Threads;
-use tf_crew::{Gate, Joined, Section, StormFault, WantOfMemory, run_crew};
+use tf_crew::{Done, Gate, Joined, StormFault, run_crew};
 use tf_forest::Forest;
-use tf_manifest::Job;
 use tf_query::Version;
 use tf_rows::{AllRows, MutableRows, SealRows};
 use tf_store::{Share, Store, StoreName, StoreOf, StoredCopies, VersionCopies};
@@ -31,14 +29,9 @@ pub struct Totals {
     pub complete: bool,
 }
 
-/// What clients and compactors do, each at one call. What runs them knows a store by this alone: closures over its own type are past
-/// the limit of steps of their check.
-trait Critical<H: Drop, J: Drop> {
-    /// One critical section of a client: the piece of this number of its work.
-    fn section(&self, worker: u32, piece: usize, share: H) -> Section<H, J>;
-
-    /// Merges a job and installs what it merged. Tells whether it stands there.
-    fn merge(&self, job: J) -> Result<bool, WantOfMemory>;
+/// The piece of this number of the work of the client with this one.
+fn piece(scripts: &[Vec<Work>], worker: u32, number: usize) -> Option<&Work> {
+    scripts.get(worker as usize)?.as_slice().get(number)
 }
 
 /// Runs all workers, of which query workers ask readers, and gives the clients' shares back. What clients and compactors do is given.
@@ -64,7 +57,10 @@ where
     requires shares { vec_len shares ≡ length scripts.now }
     ensures { IfOk result (λ joined. vec_len joined.shares ≡ length scripts.now) }
 {
-    let run = |worker: u32, piece: usize, share: H| desk.section(worker, piece, share);
+    let run = |worker: u32, place: usize, share: H| desk.section(
+        piece(scripts, worker, place),
+        share,
+    );
     let merge = |job: J| desk.merge(job);
     let first = scripts.len();
     let ask = |worker: u32, number: usize, reader: Q| answer_of_list(
@@ -79,57 +75,13 @@ where
     )
 }
 
-/// What workers of a storm have beside what they are given at each call: closures capture this one struct.
-#[derive(Drop)]
-struct Desk<'a, T, C, A, S, R>
-where
-    T: MutableRows + Drop,
-    C: StoredCopies + Drop,
-    A: Allocator + Copy,
-    S: StoreName,
-{
-    rt: &'a R,
-    alloc: A,
-    lists: Global,
-    store: &'a Mutex<SharedStore<T, C, A, S>>,
-    scripts: &'a [Vec<Work>],
-}
-
-impl<T, C, S, R> Critical<Share<S>, Job<Global, S>> for Desk<'_, T, C, Global, S, R>
-where
-    T: SealRows<Global> + Drop,
-    C: VersionCopies<Version<Global, S>, S> + Drop,
-    S: StoreName,
-    R: Wait,
-{
-    fn section(
-        &self,
-        worker: u32,
-        piece: usize,
-        share: Share<S>,
-    ) -> Section<Share<S>, Job<Global, S>> {
-        section_of_script(
-            self.rt,
-            self.alloc,
-            self.lists,
-            self.store,
-            self.scripts,
-            (worker, piece),
-            share,
-        )
-    }
-
-    fn merge(&self, job: Job<Global, S>) -> Result<bool, WantOfMemory> {
-        compact(self.rt, self.alloc, self.store, job)
-    }
-}
-
 /// Runs all workers round the lock of a store, and gives the clients' shares back.
 fn run_locked<T, C, S, Q, R, G>(
     rt: &R,
     desk: &Desk<'_, T, C, Global, S, R>,
     shares: Vec<Share<S>, Global>,
     readers: Vec<Q, Global>,
+    scripts: &[Vec<Work>],
     asks: &[Vec<Ask>],
     gate: &G,
 ) -> Result<Joined<Share<S>>, StormFault>
@@ -140,21 +92,12 @@ where
     Q: VersionReader + Send + Drop,
     R: Wait + Threads + Sync,
     G: Gate + Sync,
-    requires some { (0 < length desk.now.scripts.now) × (length desk.now.scripts.now ≤ 64) }
+    requires some { (0 < length scripts.now) × (length scripts.now ≤ 64) }
     requires asks { (length asks.now ≤ 64) × (vec_len readers ≤ length asks.now) }
-    requires shares { vec_len shares ≡ length desk.now.scripts.now }
-    ensures { IfOk result (λ joined. vec_len joined.shares ≡ length desk.now.scripts.now) }
+    requires shares { vec_len shares ≡ length scripts.now }
+    ensures { IfOk result (λ joined. vec_len joined.shares ≡ length scripts.now) }
 {
-    run_asking(
-        rt,
-        desk.lists,
-        desk,
-        shares,
-        readers,
-        desk.scripts,
-        asks,
-        gate,
-    )
+    run_asking(rt, desk.lists, desk, shares, readers, scripts, asks, gate)
 }
 
 /// The same, at a desk of their own.
@@ -186,9 +129,8 @@ where
         alloc,
         lists,
         store,
-        scripts,
     };
-    run_locked(rt, &desk, shares, readers, asks, gate)
+    run_locked(rt, &desk, shares, readers, scripts, asks, gate)
 }
 
 /// The store and what was counted, once all workers are joined.
@@ -196,7 +138,7 @@ fn settle<F, C, A, S>(
     store: Store<Forest<F, A>, C, A, S>,
     clients: u64,
     joined: Result<Joined<Share<S>>, StormFault>,
-) -> Result<(Store<Forest<F, A>, C, A, S>, Totals), StormFault>
+) -> Result<(Store<Forest<F, A>, C, A, S>, Totals, Vec<Done, Global>), StormFault>
 where
     F: AllRows + Drop,
     C: StoredCopies + Drop,
@@ -210,7 +152,13 @@ where
     ensures shares { IfOk result (λ r. r.1.shares ≡ r.1.stored) }
 {
     match joined {
-        Ok(Joined { shares, complete }) => {
+        Ok(
+            Joined {
+                shares,
+                done,
+                complete,
+            },
+        ) => {
             let mut store = store;
             let sum = store.gather(shares);
             let totals = Totals {
@@ -219,7 +167,7 @@ where
                 shares: sum,
                 complete,
             };
-            Ok((store, totals))
+            Ok((store, totals, done))
         }
         Err(fault) => {
             drop(store);
@@ -232,8 +180,8 @@ where
 /// of its own, and joins them all: the clients first, then, once the queue is closed, the compactors, and the query workers.
 ///
 /// Query worker `i` asks `asks[i]`. Clients are workers 0 to `n - 1`, query workers the next ones, as many as there are lists of
-/// what to ask, and compactors the last two. Gives the store back, and what was counted: the shares of all clients, those that
-/// ended early too, are together what is stored. `shares` have to be all that the store gave. Lists of what threads share lie in
+/// what to ask, and compactors the last two. Gives the store back, what was counted, and what each worker did: clients, compactors and
+/// query workers, each kind by rising number. The shares of all clients, those that ended early too, are together what is stored. `shares` have to be all that the store gave. Lists of what threads share lie in
 /// `lists`, what the store takes in `alloc`.
 ///
 /// `NoMemory` where no client was started, and `NoThread` where a thread couldn't be made: all that were started are joined then, and
@@ -248,7 +196,7 @@ pub fn storm<T, C, S, Q, R, G>(
     scripts: &[Vec<Work>],
     asks: &[Vec<Ask>],
     gate: &G,
-) -> Result<(StoreOf<T, C, Global, S>, Totals), StormFault>
+) -> Result<(StoreOf<T, C, Global, S>, Totals, Vec<Done, Global>), StormFault>
 where
     T: SealRows<Global> + Send + Drop,
     C: VersionCopies<Version<Global, S>, S> + Send + Drop,

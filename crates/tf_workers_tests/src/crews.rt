@@ -64,6 +64,7 @@ where
         };
         Section {
             share: share.saturating_add(1),
+            stored: 1,
             jobs,
         }
     };

@@ -23,6 +23,8 @@ mod storms;
 #[cfg(test)]
 mod tasks;
 #[cfg(test)]
+mod threads;
+#[cfg(test)]
 mod trials;
 #[cfg(test)]
 mod turns;

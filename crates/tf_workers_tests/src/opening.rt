@@ -7,6 +7,7 @@ use crate::gates::Meetings;
 use crate::readers::{WatchedReader, watched};
 use crate::receipts::learn;
 use crate::tasks::Tasks;
+use crate::threads::publish_beside;
 use crate::trials::{Trial, Tried};
 use crate::turns::take_turns;
 use std::alloc::Global;
@@ -18,8 +19,8 @@ use tf_query::Version;
 use tf_readers::{Copies, Publishable, Reader};
 use tf_records::Refusal;
 use tf_rows::{EmptyRows, MutableTables, SealRows};
-use tf_store::{BlankStore, Share, Store, StoreName, StoreOf, VersionCopies, VersionOf};
-use tf_workers::{Totals, storm};
+use tf_store::{BlankStore, Share, StoreName, StoreOf, VersionCopies, VersionOf};
+use tf_workers::{Done, Totals, storm};
 
 /// Runs a trial on an empty store with registries of its own, which has a share for each client and two readers.
 pub fn try_out<R: Wait + Threads + Sync>(
@@ -92,43 +93,43 @@ where
     requires history { blank.history ≡ S.history }
     requires registries { AreShelves S.shelf registries.now }
 {
-    with_versions::<T, S, Version<Global, S>, R>(
-        rt,
-        alloc,
-        Store::new(alloc, rt, registries, blank, tasks.works.len() as u32, 2),
-        tasks,
-        trial,
-        gate,
-    )
+    with_versions::<T, S, Version<Global, S>, R>(rt, alloc, registries, blank, tasks, trial, gate)
 }
 
-/// A new store that shows readers versions of type `V`, its shares, and its readers.
-type OpenedStore<T, V, S, R> = (
-    StoreOf<T, Copies<V, Global, S, R>, Global, S>,
-    Vec<Share<S>, Global>,
-    Vec<Reader<V, Global, S>, Global>,
-);
-
-/// On a new store, if there was memory for it. It is generic in the version that readers are shown.
+/// On a store that shows readers versions of type `V`, which is named where no store is.
 fn with_versions<T, S, V, R>(
     rt: &R,
     alloc: Global,
-    opened: Result<OpenedStore<T, V, S, &R>, Refusal>,
+    registries: &Registries<Global>,
+    blank: BlankStore,
     tasks: &Tasks,
     trial: Trial,
     gate: &Meetings,
 ) -> Tried
 where
-    T: SealRows<Global> + Send + Drop,
+    T: EmptyRows<Global> + SealRows<Global> + Send + Drop,
     S: StoreName + Send + Sync,
     V: VersionOf<Version<Global, S>> + Publishable + Send + Sync + Drop,
     R: Wait + Threads + Sync,
+    requires fits { FitsRows T.row }
     requires clients { (0 < vec_len tasks.now.works) × (vec_len tasks.now.works ≤ 64) }
     requires asks { vec_len tasks.now.asks ≡ 2 }
-    requires readers { IfOk opened (λ o. vec_len o.2 ≤ 2) }
-    requires shares { IfOk opened (λ o. (vec_len o.1 ≡ vec_len tasks.now.works) × (vec_len o.1 ≡ S.parts)) }
+    requires name { blank.ledger.name ≡ S.name }
+    requires parts { (blank.ledger.parts ≡ S.parts) × (S.parts ≡ vec_len tasks.now.works) }
+    requires history { blank.history ≡ S.history }
+    requires registries { AreShelves S.shelf registries.now }
 {
-    with_copies(rt, alloc, opened, tasks, trial, gate)
+    let shares = tasks.works.len() as u32;
+    with_copies(
+        rt,
+        alloc,
+        StoreOf::<T, Copies<V, Global, S, &R>, Global, S>::new(
+            alloc, rt, registries, blank, shares, 2,
+        ),
+        tasks,
+        trial,
+        gate,
+    )
 }
 
 /// On a new store, if there was memory for it. It is generic in what readers enter.
@@ -175,16 +176,56 @@ where
             let asks = tasks.asks.as_slice();
             told(storm(rt, alloc, alloc, store, shares, readers, works, asks, gate))
         }
+        Trial::Thread => try_thread(rt, alloc, store, shares, readers),
         _ => try_alone(rt, alloc, store, shares, readers, tasks, trial),
     }
 }
 
+/// A thread that locks a store and publishes, with the last share and the last reader.
+fn try_thread<T, S, C, V, R>(
+    rt: &R,
+    alloc: Global,
+    store: StoreOf<T, C, Global, S>,
+    shares: Vec<Share<S>, Global>,
+    readers: Vec<WatchedReader<V, S>, Global>,
+) -> Tried
+where
+    T: SealRows<Global> + Send + Drop,
+    S: StoreName + Send + Sync,
+    C: VersionCopies<Version<Global, S>, S> + Send + Drop,
+    V: Publishable + Drop,
+    R: Wait + Threads + Sync,
+{
+    let mut shares = shares;
+    let mut readers = readers;
+    let (Some(share), Some(reader)) = (shares.pop(), readers.pop()) else {
+        drop(store);
+        return Tried::Nothing;
+    };
+    Tried::Thread(publish_beside(rt, alloc, store, share, reader))
+}
+
+/// Whether each worker of a storm with two query workers told what it did, and clients stored what was counted.
+fn are_counted(done: &Vec<Done, Global>, totals: Totals) -> bool {
+    let mut stored_by_clients = 0u64;
+    for what in done {
+        if let Done::Client { stored, .. } = what {
+            stored_by_clients = stored_by_clients.saturating_add(*stored);
+        }
+    }
+    done.len() as u64 == totals.clients.saturating_add(4) && stored_by_clients == totals.stored
+}
+
 /// What was counted, once the store is dropped.
-fn told<X: Drop, E: Drop>(ended: Result<(X, Totals), E>) -> Tried {
+fn told<X: Drop, E: Drop>(ended: Result<(X, Totals, Vec<Done, Global>), E>) -> Tried {
     match ended {
-        Ok((store, totals)) => {
+        Ok((store, totals, done)) => {
             drop(store);
-            Tried::Storm(totals)
+            if are_counted(&done, totals) {
+                Tried::Storm(totals)
+            } else {
+                Tried::Nothing
+            }
         }
         Err(_) => Tried::Nothing,
     }

@@ -11,7 +11,7 @@ use tf_rows::SealRows;
 use tf_store::{Receipt, Share, StoreName, StoreOf, VersionCopies};
 
 /// The account that is stored.
-const ID: u128 = 7;
+pub const ID: u128 = 7;
 
 /// Tells a reader of receipts, and how many they are.
 fn show_all<V: Publishable + Drop, S: StoreName>(
@@ -28,7 +28,7 @@ fn show_all<V: Publishable + Drop, S: StoreName>(
 }
 
 /// Stores an account, and tells whether it is stored.
-fn stores<T, C, S>(store: &mut StoreOf<T, C, Global, S>, share: &mut Share<S>) -> bool
+pub fn stores<T, C, S>(store: &mut StoreOf<T, C, Global, S>, share: &mut Share<S>) -> bool
 where
     T: SealRows<Global> + Drop,
     C: VersionCopies<Version<Global, S>, S> + Drop,

@@ -73,7 +73,7 @@ fn a_compactor_alone_installs_twelve_tables_and_drops_a_stale_one(
         left: 0,
     };
     assert!(rt; merges.is_complete && merges.installed == 12 && before > after);
-    assert!(rt; merges.reckoned == expected && merges.jobs == (13, 13));
+    assert!(rt; merges.reckoned == expected && merges.jobs == (13, 13) && merges.taken == 13);
     Ok(())
 }
 
@@ -105,6 +105,14 @@ fn a_receipt_that_a_reader_learned_is_read_back(rt: HostRuntime) -> Result<(), F
 }
 
 #[test]
+fn a_thread_locks_a_store_and_publishes(rt: HostRuntime) -> Result<(), Fail> {
+    let tasks = one_client(rt.alloc(), Vec::new(rt.alloc()))?;
+    let tried = try_out(&rt, rt.alloc(), &tasks, Trial::Thread, &Meetings::new(true));
+    assert!(rt; matches!(tried, Tried::Thread(true)));
+    Ok(())
+}
+
+#[test]
 fn workers_go_at_the_same_time(rt: HostRuntime) -> Result<(), Fail> {
     let tasks = that_meet(rt.alloc())?;
     let gate = Meetings::new(false);
@@ -113,16 +121,43 @@ fn workers_go_at_the_same_time(rt: HostRuntime) -> Result<(), Fail> {
     Ok(())
 }
 
-#[test]
-fn clients_of_any_number_store_what_they_count(rt: HostRuntime) -> Result<(), Fail> {
-    let mut dice = Dice::new(1);
-    for clients in [1, 2, 4, 16, 64u32] {
-        for _round in 0..3u32 {
-            let tasks = random_tasks(rt.alloc(), &mut dice, clients, 8)?;
-            assert_counted(&rt, &tasks, &Meetings::new(true), true)?;
-        }
+/// Storms of so many clients with random scripts, so often.
+fn assert_rounds<R: Abort + AllocGlobal + Wait + Threads + Sync>(
+    rt: &R,
+    seed: u64,
+    clients: u32,
+    rounds: u32,
+) -> Result<(), Fail>
+    requires { (0 < clients) × (clients ≤ 64) }
+{
+    let mut dice = Dice::new(seed);
+    for _round in 0..rounds {
+        let tasks = random_tasks(rt.alloc(), &mut dice, clients, 8)?;
+        assert_counted(rt, &tasks, &Meetings::new(true), true)?;
     }
     Ok(())
+}
+
+#[test]
+fn few_clients_store_what_they_count(rt: HostRuntime) -> Result<(), Fail> {
+    assert_rounds(&rt, 1, 1, 20)?;
+    assert_rounds(&rt, 2, 2, 20)?;
+    assert_rounds(&rt, 3, 4, 20)
+}
+
+#[test]
+fn sixteen_clients_store_what_they_count(rt: HostRuntime) -> Result<(), Fail> {
+    assert_rounds(&rt, 4, 16, 10)
+}
+
+#[test]
+fn sixteen_clients_store_what_they_count_again(rt: HostRuntime) -> Result<(), Fail> {
+    assert_rounds(&rt, 5, 16, 10)
+}
+
+#[test]
+fn sixty_four_clients_store_what_they_count(rt: HostRuntime) -> Result<(), Fail> {
+    assert_rounds(&rt, 6, 64, 3)
 }
 
 #[test]

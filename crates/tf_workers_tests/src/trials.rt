@@ -12,6 +12,8 @@ pub enum Trial {
     Turns,
     /// A batch of whose receipt a reader learns.
     Receipt,
+    /// A thread that locks the store and publishes.
+    Thread,
 }
 
 /// What came of a trial.
@@ -20,6 +22,7 @@ pub enum Tried {
     Storm(Totals),
     Turns(Turns),
     Receipt(bool),
+    Thread(bool),
     /// A growth was refused, or a thread.
     Nothing,
 }

@@ -23,7 +23,7 @@ use tf_workers::{
 pub struct Merges {
     /// What the client's share counts.
     pub share: u64,
-    /// Whether neither lacked memory.
+    /// Whether neither lacked memory, and the client did all pieces of its work and counted what its share counts.
     pub is_complete: bool,
     /// How many tables the compactor installed.
     pub installed: u64,
@@ -31,6 +31,8 @@ pub struct Merges {
     pub reckoned: Reckoning,
     /// How often the compactor's gate was called before a job, and how often after one.
     pub jobs: (u64, u64),
+    /// How many jobs the compactor says that it took.
+    pub taken: u64,
     /// How many tables the row of expiries refers to, before the compactor and after it.
     pub references: (u32, u32),
     /// Whether a version that was given before the compactor answered with the same bytes after it, and with some.
@@ -41,7 +43,7 @@ pub struct Merges {
 #[derive(Clone, Copy)]
 pub struct Turns {
     pub merges: Merges,
-    /// The rows of the query worker's answers, none where it lacked memory.
+    /// The rows of the query worker's answers, none where it lacked memory or asked too little.
     pub rows: Option<u64>,
     /// How often the query worker's gate was called before a question, and how often after one.
     pub questions: (u64, u64),
@@ -131,15 +133,19 @@ where
     let (queue, first, second) = bench(alloc)?;
     let Ended {
         share,
+        pieces,
+        stored,
         seat: first,
         fault,
     } = client(rt, alloc, store, &queue, first, work, share, 0, &OpenGate);
-    let is_complete = fault.is_none() && reader.reader.follow();
+    let is_told = pieces == work.len() as u64 && stored == share.count();
+    let is_complete = fault.is_none() && is_told && reader.reader.follow();
     let before = references(&store.lock(rt).store);
     let answer = held_bytes(alloc, reader);
     queue.close();
     let gate = CountingGate::new();
     let Compacted {
+        jobs,
         installed,
         seat: second,
         fault,
@@ -152,6 +158,7 @@ where
         installed,
         reckoned: reckoned(rt, alloc, queue, first, second)?,
         jobs: gate.calls(),
+        taken: jobs,
         references: (before, after),
         is_kept: !kept.is_empty() && kept.as_slice() == answer.as_slice(),
     })
@@ -195,7 +202,7 @@ where
     match merges {
         Ok(merges) => Some(Turns {
             merges,
-            rows: if asked.fault.is_none() {
+            rows: if asked.fault.is_none() && asked.questions == asks.len() as u64 {
                 Some(asked.rows)
             } else {
                 None

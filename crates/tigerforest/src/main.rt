@@ -1,10 +1,12 @@
 //! The program. `tigerforest run SCRIPT` runs a script over an empty store and prints its answer. `tigerforest storm SCRIPT..` runs 1
-//! to 64 scripts over one empty store, all at once, and prints what their clients stored.
+//! to 64 scripts over one empty store, all at once, and prints what their clients stored; with `-v` before the scripts it tells what
+//! each worker did, on standard error.
 #![tactic(auto)]
 
 mod storm;
 
 use crate::storm::storm_scripts_in;
+use std::alloc::Global;
 use std::env;
 use std::marker::Sync;
 use std::process::ExitCode;
@@ -13,27 +15,37 @@ use std::sync::Wait;
 use std::thread::Threads;
 use tf_main::{Ending, report};
 use tf_program::{ending_unless_no_memory, run_script_in};
+use tf_storm::{Done, write_reports};
 
 fn main(rt: HostRuntime) -> ExitCode {
-    let ending = run(&rt);
-    ExitCode::from(report(&ending, &mut rt.stderr()))
+    let (ending, done) = run(&rt);
+    let mut err = rt.stderr();
+    let status = report(&ending, &mut err);
+    // There is nobody left to tell where it can't be written.
+    let _ = write_reports(done.as_slice(), &mut err);
+    ExitCode::from(status)
 }
 
-/// Does what the arguments ask for.
-fn run<R: Env + Files + Print + AllocGlobal + Wait + Threads + Sync>(rt: &R) -> Ending {
+/// Does what the arguments ask for. Gives what each worker of a storm did, where they ask for it.
+fn run<R: Env + Files + Print + AllocGlobal + Wait + Threads + Sync>(
+    rt: &R,
+) -> (Ending, Vec<Done, Global>) {
     let mut args = match env::args(rt) {
         Ok(args) => args,
-        Err(error) => return ending_unless_no_memory(error, Ending::Usage),
+        Err(error) => {
+            let ending = ending_unless_no_memory(error, Ending::Usage);
+            return (ending, Vec::new(rt.alloc()));
+        }
     };
     let _program = args.next();
     let Some(command) = args.next() else {
-        return Ending::Usage;
+        return (Ending::Usage, Vec::new(rt.alloc()));
     };
     if command.as_str() == "run" {
-        run_script_in(rt, args)
+        (run_script_in(rt, args), Vec::new(rt.alloc()))
     } else if command.as_str() == "storm" {
         storm_scripts_in(rt, args)
     } else {
-        Ending::Usage
+        (Ending::Usage, Vec::new(rt.alloc()))
     }
 }

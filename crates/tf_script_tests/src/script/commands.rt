@@ -222,6 +222,16 @@ fn every_command_is_read(rt: HostRuntime) -> Result<(), Fail> {
 }
 
 #[test]
+fn a_script_may_have_many_commands(rt: HostRuntime) -> Result<(), Fail> {
+    let mut script = String::new(rt.alloc());
+    for _ in 0..10_000u32 {
+        script.push_str("publish\n")?;
+    }
+    assert_eq!(rt; parse(rt.alloc(), script.as_bytes())?.len(), 10_000);
+    Ok(())
+}
+
+#[test]
 fn each_query_has_its_fields(rt: HostRuntime) -> Result<(), Fail> {
     let of_account = AccountFilter {
         account_id: 1,

@@ -1,4 +1,4 @@
--- Mutable tables, and versions, may go to other threads.
+-- Mutable tables and versions on the global heap may go to other threads.
 use Rattle.std.proofs.Crossing.{crosses, frees, send, sync}
 use Rattle.std.specs.contracts.alloc.Global as Heap
 use Rattle.std.specs.contracts.impls.GlobalAllocator.TheImpl.{ghosts}
