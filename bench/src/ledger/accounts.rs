@@ -1,15 +1,15 @@
 //! The accounts: their records with the sums of now, their transfers and their history.
 
-use super::fields::{FieldIndex, Fields};
-use super::hash::HashMap;
+use super::fields::FieldIndex;
+use super::place::Place;
 use super::records::{Account, Transfer};
 use super::sequence::Sequence;
 
 /// The places of the two accounts of a transfer.
 #[derive(Clone, Copy)]
 pub struct Sides {
-    pub debit: usize,
-    pub credit: usize,
+    pub debit: Place<Account>,
+    pub credit: Place<Account>,
 }
 
 /// The sums of an account right after a transfer.
@@ -22,57 +22,51 @@ pub struct Balance {
     pub credits_posted: u128,
 }
 
-/// The transfers of an account, by rising timestamp.
+/// The transfers of an account, by rising places.
 #[derive(Default)]
 pub struct Activity {
-    /// The timestamps of those that debit it.
-    pub debits: Vec<u64>,
-    /// The timestamps of those that credit it.
-    pub credits: Vec<u64>,
+    /// Those that debit it.
+    pub debits: Vec<Place<Transfer>>,
+    /// Those that credit it.
+    pub credits: Vec<Place<Transfer>>,
     /// Its sums after each of both, where it keeps history.
     pub history: Vec<Balance>,
 }
 
-/// All accounts. A place is that in the order in which they were stored.
+/// All accounts.
 #[derive(Default)]
 pub struct Accounts {
     /// Each with its sums of now, and marked as closed while it is.
     pub records: Sequence<Account>,
-    pub index: FieldIndex,
+    pub index: FieldIndex<Account>,
     activities: Vec<Activity>,
-    places: HashMap<u128, usize>,
+    /// The balances that histories don't have yet.
+    noted: Vec<(Place<Account>, Balance)>,
 }
 
 impl Accounts {
-    /// The place of the account with this id.
-    pub fn find(&self, id: u128) -> Option<usize> {
-        self.places.get(&id).copied()
-    }
-
-    /// The account with this id.
-    pub fn get(&self, id: u128) -> Option<&Account> {
-        self.find(id).map(|place| &self.records[place])
-    }
-
     /// The transfers of the account at a place.
-    pub fn activity(&self, place: usize) -> &Activity {
-        &self.activities[place]
+    pub fn activity(&self, place: Place<Account>) -> &Activity {
+        &self.activities[place.index()]
     }
 
-    /// Stores an account.
-    pub fn push(&mut self, account: Account) {
-        self.places.insert(account.id, self.records.len());
-        self.index.push(&Fields::from(&account), account.timestamp);
-        self.activities.push(Activity::default());
-        self.records.push(account.timestamp, account);
+    /// Brings the index up to date, and makes room for the transfers of new accounts.
+    pub fn update(&mut self) {
+        self.index.update(&self.records);
+        self.activities
+            .resize_with(self.records.len(), Activity::default);
     }
 
-    /// Takes the last account away, which has no transfers.
-    pub fn pop(&mut self) {
-        if let Some(account) = self.records.pop() {
-            self.activities.pop();
-            self.index.pop(&Fields::from(&account));
-            self.places.remove(&account.id);
+    /// Lists a transfer behind those that are listed.
+    pub fn list(&mut self, sides: Sides, place: Place<Transfer>) {
+        self.activities[sides.debit.index()].debits.push(place);
+        self.activities[sides.credit.index()].credits.push(place);
+    }
+
+    /// Adds the balances that were noted to their histories.
+    pub fn list_balances(&mut self) {
+        for (place, balance) in self.noted.drain(..) {
+            self.activities[place.index()].history.push(balance);
         }
     }
 
@@ -115,35 +109,36 @@ impl Accounts {
         self.records[sides.credit].credits_posted -= amount;
     }
 
-    /// Lists a transfer, whose amount the sums have already.
-    pub fn list(&mut self, sides: Sides, timestamp: u64) {
-        self.activities[sides.debit].debits.push(timestamp);
-        self.activities[sides.credit].credits.push(timestamp);
-        self.note_balance(sides.debit, timestamp);
-        self.note_balance(sides.credit, timestamp);
+    /// Notes the sums right after a transfer of those of its accounts that keep history.
+    pub fn note_balances(&mut self, sides: Sides, timestamp: u64) {
+        for place in [sides.debit, sides.credit] {
+            let account = &self.records[place];
+            let before = self.noted.len();
+            // no branch here, which could not be foretold
+            self.noted.push((place, Balance::of(account, timestamp)));
+            self.noted
+                .truncate(before + usize::from(account.has(Account::HISTORY)));
+        }
     }
 
-    /// Takes the last transfer that was listed off the lists.
-    pub fn unlist(&mut self, sides: Sides) {
-        let debit = &mut self.activities[sides.debit];
-        debit.debits.pop();
-        debit.history.pop();
-        let credit = &mut self.activities[sides.credit];
-        credit.credits.pop();
-        credit.history.pop();
+    /// Takes the balances away that were noted last, for a transfer between these accounts.
+    pub fn forget_balances(&mut self, sides: Sides) {
+        for place in [sides.debit, sides.credit] {
+            if self.records[place].has(Account::HISTORY) {
+                self.noted.pop();
+            }
+        }
     }
+}
 
-    /// Notes the sums of an account that keeps history.
-    fn note_balance(&mut self, place: usize, timestamp: u64) {
-        let account = &self.records[place];
-        if account.has(Account::HISTORY) {
-            self.activities[place].history.push(Balance {
-                timestamp,
-                debits_pending: account.debits_pending,
-                debits_posted: account.debits_posted,
-                credits_pending: account.credits_pending,
-                credits_posted: account.credits_posted,
-            });
+impl Balance {
+    fn of(account: &Account, timestamp: u64) -> Self {
+        Balance {
+            timestamp,
+            debits_pending: account.debits_pending,
+            debits_posted: account.debits_posted,
+            credits_pending: account.credits_pending,
+            credits_posted: account.credits_posted,
         }
     }
 }

@@ -23,6 +23,9 @@ trait Event {
 
     /// Notes what a failure of its own leaves.
     fn note_failure(&self, ledger: &mut Ledger, outcome: Outcome);
+
+    /// Lists the records of its kind that were stored.
+    fn list(ledger: &mut Ledger);
 }
 
 impl Event for Account {
@@ -32,7 +35,7 @@ impl Event for Account {
 
     fn store(&self, ledger: &mut Ledger, timestamp: u64) -> Result<(), Outcome> {
         let account = judge_account(ledger, timestamp, self)?;
-        ledger.accounts.push(account);
+        ledger.accounts.records.push(account);
         Ok(())
     }
 
@@ -41,10 +44,14 @@ impl Event for Account {
     }
 
     fn take_back(ledger: &mut Ledger) {
-        ledger.accounts.pop();
+        ledger.accounts.records.pop();
     }
 
     fn note_failure(&self, _ledger: &mut Ledger, _outcome: Outcome) {}
+
+    fn list(ledger: &mut Ledger) {
+        ledger.accounts.update();
+    }
 }
 
 impl Event for Transfer {
@@ -70,6 +77,10 @@ impl Event for Transfer {
         if outcome.may_pass() {
             ledger.transfers.fail(self.id);
         }
+    }
+
+    fn list(ledger: &mut Ledger) {
+        ledger.list_transfers();
     }
 }
 
@@ -110,6 +121,7 @@ impl Ledger {
             self.run_chain(chain, start, before + start as u64, &mut failures);
             start += chain.len();
         }
+        E::list(self);
         self.clock = before + events.len() as u64;
         Ok(failures)
     }

@@ -1,9 +1,9 @@
-//! Bounds of timestamps, both inclusive. 0 is no bound.
+//! Bounds of timestamps and of places.
 
-use super::sequence::Sequence;
+use super::place::Place;
 use std::ops::Range;
 
-/// The least and the greatest timestamp that are asked for.
+/// The least and the greatest timestamp that are asked for. 0 is no bound.
 #[derive(Clone, Copy)]
 pub struct Bounds {
     pub least: u64,
@@ -18,24 +18,45 @@ impl Bounds {
             && (self.greatest == 0 || self.least <= self.greatest)
     }
 
-    /// The part of rising rows whose timestamps are within the bounds.
-    pub fn cut<'r, R>(&self, rows: &'r [R], timestamp: impl Fn(&R) -> u64) -> &'r [R] {
-        let rows = match self.greatest {
-            0 => rows,
-            greatest => &rows[..rows.partition_point(|row| timestamp(row) <= greatest)],
-        };
-        match self.least {
-            0 => rows,
-            least => &rows[rows.partition_point(|row| timestamp(row) < least)..],
+    /// The timestamps within valid bounds.
+    pub fn span(&self) -> Span<u64> {
+        Span {
+            from: (self.least != 0).then_some(self.least),
+            before: (self.greatest != 0).then_some(self.greatest + 1),
+        }
+    }
+}
+
+/// Keys from one on, and before another, where they are bounded.
+#[derive(Clone, Copy)]
+pub struct Span<K> {
+    from: Option<K>,
+    before: Option<K>,
+}
+
+impl<K: Copy + Ord> Span<K> {
+    /// The span between what belongs to its bounds.
+    pub fn map<L>(self, place: impl Fn(K) -> L) -> Span<L> {
+        Span {
+            from: self.from.map(&place),
+            before: self.before.map(&place),
         }
     }
 
-    /// The places of the records within the bounds.
-    pub fn places<T>(&self, records: &Sequence<T>) -> Range<usize> {
-        let end = match self.greatest {
-            0 => records.len(),
-            greatest => records.place_from(greatest + 1),
-        };
-        records.place_from(self.least).min(end)..end
+    /// The part of rows, whose keys rise, with keys in the span.
+    pub fn cut<'r, R>(&self, rows: &'r [R], key: impl Fn(&R) -> K) -> &'r [R] {
+        let first = |bound: K| rows.partition_point(|row| key(row) < bound);
+        let end = self.before.map_or(rows.len(), first);
+        let start = self.from.map_or(0, first);
+        &rows[start.min(end)..end]
+    }
+}
+
+impl<T> Span<Place<T>> {
+    /// The indexes of so many rows that are in the span.
+    pub fn range(&self, count: usize) -> Range<usize> {
+        let end = self.before.map_or(count, Place::index);
+        let start = self.from.map_or(0, Place::index);
+        start.min(end)..end
     }
 }

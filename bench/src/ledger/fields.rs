@@ -1,9 +1,11 @@
 //! The fields by which accounts and transfers are searched, and their indexes.
 
-use super::bounds::Bounds;
-use super::hash::HashMap;
-use super::records::{Account, Transfer};
-use std::hash::Hash;
+use super::bounds::Span;
+use super::hash::hash;
+use super::place::Place;
+use super::record::Record;
+use super::sequence::Sequence;
+use super::slots::Slots;
 
 /// The searched fields of a record, or what a filter asks of them: 0 asks nothing.
 #[derive(Clone, Copy, Default, PartialEq, Eq)]
@@ -35,98 +37,102 @@ fn meets<V: Default + PartialEq>(asked: V, field: V) -> bool {
     asked == V::default() || asked == field
 }
 
-impl From<&Account> for Fields {
-    fn from(account: &Account) -> Self {
-        Fields {
-            user_data_128: account.user_data_128,
-            user_data_64: account.user_data_64,
-            user_data_32: account.user_data_32,
-            ledger: account.ledger,
-            code: account.code,
-        }
-    }
+/// A value of a field, and the rising places of the records that have it.
+struct Posting<V, T> {
+    value: V,
+    places: Vec<Place<T>>,
 }
 
-impl From<&Transfer> for Fields {
-    fn from(transfer: &Transfer) -> Self {
-        Fields {
-            user_data_128: transfer.user_data_128,
-            user_data_64: transfer.user_data_64,
-            user_data_32: transfer.user_data_32,
-            ledger: transfer.ledger,
-            code: transfer.code,
-        }
-    }
+/// The postings of a field. Records with 0 aren't listed, since no filter can ask for them.
+struct Postings<V, T> {
+    postings: Vec<Posting<V, T>>,
+    values: Slots<Posting<V, T>>,
 }
 
-/// For each value of a field the rising timestamps of the records that have it. Records with 0 aren't listed, since no
-/// filter can ask for them.
-struct Postings<V> {
-    lists: HashMap<V, Vec<u64>>,
-}
-
-impl<V: Default + Eq + Hash> Postings<V> {
-    fn push(&mut self, value: V, timestamp: u64) {
-        if value != V::default() {
-            self.lists.entry(value).or_default().push(timestamp);
+impl<V: Copy + Default + Eq + Into<u128>, T> Postings<V, T> {
+    /// Lists records behind those that are listed, by their values.
+    fn list<'r>(
+        &mut self,
+        records: impl Iterator<Item = (Place<T>, &'r T)>,
+        value: impl Fn(&Fields) -> V,
+    ) where
+        T: Record + 'r,
+    {
+        for (place, record) in records {
+            let value = value(&record.fields());
+            if value != V::default() {
+                self.posting(value).places.push(place);
+            }
         }
     }
 
-    /// Takes the last timestamp of a value away.
-    fn pop(&mut self, value: V) {
-        if let Some(list) = self.lists.get_mut(&value) {
-            list.pop();
-        }
+    /// The posting of a value, which is a new one where there is none.
+    fn posting(&mut self, value: V) -> &mut Posting<V, T> {
+        let found = self.find(value).unwrap_or_else(|| self.add(value));
+        &mut self.postings[found.index()]
     }
 
-    /// The timestamps of a value, or None where none is asked for.
-    fn asked(&self, value: V) -> Option<&[u64]> {
+    fn find(&self, value: V) -> Option<Place<Posting<V, T>>> {
+        let is_sought = |place: Place<_>| self.postings[place.index()].value == value;
+        self.values.find(hash(value.into()), is_sought)
+    }
+
+    fn add(&mut self, value: V) -> Place<Posting<V, T>> {
+        let place = Place::after(self.postings.len());
+        self.values.insert(hash(value.into()), place);
+        self.postings.push(Posting {
+            value,
+            places: Vec::new(),
+        });
+        place
+    }
+
+    /// The places of a value, or None where none is asked for.
+    fn asked(&self, value: V) -> Option<&[Place<T>]> {
         if value == V::default() {
             return None;
         }
-        Some(self.lists.get(&value).map_or(&[], Vec::as_slice))
+        let found = self.find(value);
+        Some(found.map_or(&[], |place| &self.postings[place.index()].places))
     }
 }
 
-impl<V> Default for Postings<V> {
+impl<V, T> Default for Postings<V, T> {
     fn default() -> Self {
         Postings {
-            lists: HashMap::default(),
+            postings: Vec::new(),
+            values: Slots::default(),
         }
     }
 }
 
-/// The indexes of all searched fields.
-#[derive(Default)]
-pub struct FieldIndex {
-    user_data_128: Postings<u128>,
-    user_data_64: Postings<u64>,
-    user_data_32: Postings<u32>,
-    ledger: Postings<u32>,
-    code: Postings<u16>,
+/// The indexes of all searched fields, over those records that were there when it was last brought up to date.
+pub struct FieldIndex<T> {
+    listed: usize,
+    user_data_128: Postings<u128, T>,
+    user_data_64: Postings<u64, T>,
+    user_data_32: Postings<u32, T>,
+    ledger: Postings<u32, T>,
+    code: Postings<u16, T>,
 }
 
-impl FieldIndex {
-    /// Lists a record at the end.
-    pub fn push(&mut self, fields: &Fields, timestamp: u64) {
-        self.user_data_128.push(fields.user_data_128, timestamp);
-        self.user_data_64.push(fields.user_data_64, timestamp);
-        self.user_data_32.push(fields.user_data_32, timestamp);
-        self.ledger.push(fields.ledger, timestamp);
-        self.code.push(fields.code, timestamp);
+impl<T: Record> FieldIndex<T> {
+    /// Lists the records that were added, one field after the other.
+    pub fn update(&mut self, records: &Sequence<T>) {
+        let added = || records.added_after(self.listed);
+        self.user_data_128
+            .list(added(), |fields| fields.user_data_128);
+        self.user_data_64
+            .list(added(), |fields| fields.user_data_64);
+        self.user_data_32
+            .list(added(), |fields| fields.user_data_32);
+        self.ledger.list(added(), |fields| fields.ledger);
+        self.code.list(added(), |fields| fields.code);
+        self.listed = records.len();
     }
 
-    /// Takes the last record that was listed off the lists. These are its fields.
-    pub fn pop(&mut self, fields: &Fields) {
-        self.user_data_128.pop(fields.user_data_128);
-        self.user_data_64.pop(fields.user_data_64);
-        self.user_data_32.pop(fields.user_data_32);
-        self.ledger.pop(fields.ledger);
-        self.code.pop(fields.code);
-    }
-
-    /// The shortest of the lists of the fields that are asked for, within bounds, or None where no field is asked for.
-    pub fn shortest(&self, asked: &Fields, bounds: Bounds) -> Option<&[u64]> {
+    /// The shortest of the lists of the fields that are asked for, within a span, or None where no field is asked for.
+    pub fn shortest(&self, asked: &Fields, span: Span<Place<T>>) -> Option<&[Place<T>]> {
         let lists = [
             self.user_data_128.asked(asked.user_data_128),
             self.user_data_64.asked(asked.user_data_64),
@@ -136,7 +142,20 @@ impl FieldIndex {
         ];
         let lists = lists.into_iter().flatten();
         lists
-            .map(|list| bounds.cut(list, |timestamp| *timestamp))
+            .map(|list| span.cut(list, |place| *place))
             .min_by_key(|list| list.len())
+    }
+}
+
+impl<T> Default for FieldIndex<T> {
+    fn default() -> Self {
+        FieldIndex {
+            listed: 0,
+            user_data_128: Postings::default(),
+            user_data_64: Postings::default(),
+            user_data_32: Postings::default(),
+            ledger: Postings::default(),
+            code: Postings::default(),
+        }
     }
 }

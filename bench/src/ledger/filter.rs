@@ -3,6 +3,7 @@
 use super::bounds::Bounds;
 use super::fields::Fields;
 use super::limits::{BATCH_MAX, ID_MAX};
+use super::record::Record;
 use super::records::{AccountFilter, QueryFilter, Transfer};
 
 /// In which order an answer's rows stand, and how many there are at most.
@@ -76,7 +77,7 @@ impl AccountFilter {
     pub(super) fn accepts(&self, transfer: &Transfer) -> bool {
         let is_debited = transfer.debit_account_id == self.account_id;
         let is_credited = transfer.credit_account_id == self.account_id;
-        self.asked().are_met_by(&Fields::from(transfer))
+        self.asked().are_met_by(&transfer.fields())
             && ((self.has(Self::DEBITS) && is_debited) || (self.has(Self::CREDITS) && is_credited))
     }
 }

@@ -4,11 +4,15 @@
 //! fetched and tested against the whole filter. To seek in the other lists first was measured and is no faster.
 
 use super::accounts::{Activity, Balance};
-use super::fields::{FieldIndex, Fields};
+use super::bounds::Span;
+use super::fields::FieldIndex;
 use super::limits::BATCH_MAX;
+use super::place::Place;
+use super::record::Record;
 use super::records::{Account, AccountBalance, AccountFilter, QueryFilter, Transfer};
 use super::reply::Refusal;
 use super::sequence::Sequence;
+use super::transfers::Transfers;
 use super::union::Union;
 use super::Ledger;
 
@@ -16,15 +20,13 @@ impl Ledger {
     /// The accounts with these ids, in the order of the ids.
     pub fn lookup_accounts(&self, ids: &[u128]) -> Result<Vec<Account>, Refusal> {
         check_count(ids)?;
-        let found = ids.iter().filter_map(|id| self.accounts.get(*id));
-        Ok(found.copied().collect())
+        Ok(looked_up(&self.accounts.records, ids))
     }
 
     /// The transfers with these ids, in the order of the ids.
     pub fn lookup_transfers(&self, ids: &[u128]) -> Result<Vec<Transfer>, Refusal> {
         check_count(ids)?;
-        let found = ids.iter().filter_map(|id| self.transfers.get(*id));
-        Ok(found.copied().collect())
+        Ok(looked_up(&self.transfers.records, ids))
     }
 
     /// The accounts that a filter asks for; none where it isn't valid.
@@ -58,7 +60,7 @@ impl Ledger {
             return Vec::new();
         }
         if filter.asks_for_all() {
-            let rows = filter.bounds().cut(history, |row| row.timestamp);
+            let rows = filter.bounds().span().cut(history, |row| row.timestamp);
             return filter.order().answer(rows.iter().map(shown));
         }
         let rows = self.of_account(place, filter).map(|transfer| {
@@ -69,34 +71,39 @@ impl Ledger {
     }
 
     /// The place of the account that a valid filter names, if it is stored.
-    fn asked_account(&self, filter: &AccountFilter) -> Option<usize> {
+    fn asked_account(&self, filter: &AccountFilter) -> Option<Place<Account>> {
         if !filter.is_valid() {
             return None;
         }
-        self.accounts.find(filter.account_id)
+        self.accounts.records.find(filter.account_id)
     }
 
     /// The transfers of the account at a place that a filter asks for.
     fn of_account<'l>(
         &'l self,
-        place: usize,
+        place: Place<Account>,
         filter: &'l AccountFilter,
     ) -> impl DoubleEndedIterator<Item = &'l Transfer> {
-        let own = listed(self.accounts.activity(place), filter);
-        let index = &self.transfers.index;
-        let lead = match index.shortest(&filter.asked(), filter.bounds()) {
+        let Transfers { records, index, .. } = &self.transfers;
+        let span = records.places(filter.bounds().span());
+        let own = listed(self.accounts.activity(place), filter, span);
+        let lead = match index.shortest(&filter.asked(), span) {
             Some(list) if list.len() < own.len() => Union::new(list, &[]),
             _ => own,
         };
-        lead.map(|timestamp| self.transfers.records.at(timestamp))
+        lead.map(|place| &records[place])
             .filter(|transfer| filter.accepts(transfer))
     }
 }
 
-/// The timestamps of an account's transfers on the sides that a filter asks for, within its bounds.
-fn listed<'l>(activity: &'l Activity, filter: &AccountFilter) -> Union<'l> {
-    let side = |list: &'l [u64], flag| match filter.has(flag) {
-        true => filter.bounds().cut(list, |timestamp| *timestamp),
+/// The places of an account's transfers on the sides that a filter asks for, within a span.
+fn listed<'l>(
+    activity: &'l Activity,
+    filter: &AccountFilter,
+    span: Span<Place<Transfer>>,
+) -> Union<'l, Place<Transfer>> {
+    let side = |list: &'l [Place<Transfer>], flag| match filter.has(flag) {
+        true => span.cut(list, |place| *place),
         false => &[],
     };
     Union::new(
@@ -105,21 +112,25 @@ fn listed<'l>(activity: &'l Activity, filter: &AccountFilter) -> Union<'l> {
     )
 }
 
+/// The records with these ids, in the order of the ids.
+fn looked_up<T: Record>(records: &Sequence<T>, ids: &[u128]) -> Vec<T> {
+    let mut found = Vec::with_capacity(ids.len());
+    found.extend(ids.iter().filter_map(|id| records.get(*id)));
+    found
+}
+
 /// The records that a filter asks for.
-fn found<T: Copy>(records: &Sequence<T>, index: &FieldIndex, filter: &QueryFilter) -> Vec<T>
-where
-    for<'r> Fields: From<&'r T>,
-{
+fn found<T: Record>(records: &Sequence<T>, index: &FieldIndex<T>, filter: &QueryFilter) -> Vec<T> {
     if !filter.is_valid() {
         return Vec::new();
     }
     let asked = filter.asked();
-    let Some(list) = index.shortest(&asked, filter.bounds()) else {
-        let places = filter.bounds().places(records);
-        return filter.order().answer(records.range(places).iter().copied());
+    let span = records.places(filter.bounds().span());
+    let Some(list) = index.shortest(&asked, span) else {
+        return filter.order().answer(records.within(span).iter().copied());
     };
-    let rows = list.iter().map(|timestamp| records.at(*timestamp));
-    let rows = rows.filter(|row| asked.are_met_by(&Fields::from(*row)));
+    let rows = list.iter().map(|place| &records[*place]);
+    let rows = rows.filter(|row| asked.are_met_by(&row.fields()));
     filter.order().answer(rows.copied())
 }
 

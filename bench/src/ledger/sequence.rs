@@ -1,48 +1,84 @@
-//! Records by rising timestamp, found by their place or their timestamp.
+//! Records by rising timestamp, found by their place, their timestamp or their id.
 
-use std::ops::{Index, IndexMut, Range};
+use super::bounds::Span;
+use super::hash::hash;
+use super::place::Place;
+use super::record::Record;
+use super::slots::Slots;
+use std::ops::{Index, IndexMut};
 
-/// Records at the places from 0 on, by rising timestamp.
+/// Records by rising timestamp.
 ///
 /// A batch's records have timestamps without a gap, but for events that failed. Each stretch without a gap is noted by
 /// its first record, and a timestamp is looked for among those alone.
 pub struct Sequence<T> {
     records: Vec<T>,
     stretches: Vec<Stretch>,
+    ids: Slots<T>,
 }
 
 /// Where a stretch without a gap begins.
 struct Stretch {
     timestamp: u64,
-    place: usize,
+    index: usize,
 }
 
-impl<T> Sequence<T> {
+impl<T: Record> Sequence<T> {
     pub fn len(&self) -> usize {
         self.records.len()
     }
 
-    /// Adds a record at the end, with a timestamp above those before it.
-    pub fn push(&mut self, timestamp: u64, record: T) {
-        let place = self.records.len();
-        let follows = |last: &Stretch| last.timestamp + (place - last.place) as u64 == timestamp;
+    /// The records within a span.
+    pub fn within(&self, span: Span<Place<T>>) -> &[T] {
+        &self.records[span.range(self.len())]
+    }
+
+    /// The records that were added after so many, with their places.
+    pub fn added_after(&self, count: usize) -> impl Iterator<Item = (Place<T>, &T)> {
+        let places = (count..self.len()).map(Place::after);
+        places.zip(&self.records[count..])
+    }
+
+    /// The place of the record with this id.
+    pub fn find(&self, id: u128) -> Option<Place<T>> {
+        self.ids.find(hash(id), |place| self[place].id() == id)
+    }
+
+    /// The record with this id.
+    pub fn get(&self, id: u128) -> Option<&T> {
+        self.find(id).map(|place| &self[place])
+    }
+
+    /// Adds a record at the end, with an id that no other has and a timestamp above those of all others.
+    pub fn push(&mut self, record: T) {
+        let index = self.records.len();
+        let timestamp = record.timestamp();
+        let follows = |last: &Stretch| last.timestamp + (index - last.index) as u64 == timestamp;
         if !self.stretches.last().is_some_and(follows) {
-            self.stretches.push(Stretch { timestamp, place });
+            self.stretches.push(Stretch { timestamp, index });
         }
+        self.ids.insert(hash(record.id()), Place::after(index));
         self.records.push(record);
     }
 
     /// Takes the last record away.
     pub fn pop(&mut self) -> Option<T> {
-        let record = self.records.pop();
-        if self.stretches.last().map(|last| last.place) == Some(self.records.len()) {
+        let record = self.records.pop()?;
+        let index = self.records.len();
+        self.ids.remove(hash(record.id()), Place::after(index));
+        if self.stretches.last().map(|last| last.index) == Some(index) {
             self.stretches.pop();
         }
-        record
+        Some(record)
     }
 
-    /// The place of the first record with this timestamp or a later one.
-    pub fn place_from(&self, timestamp: u64) -> usize {
+    /// The places of the records with these timestamps.
+    pub fn places(&self, timestamps: Span<u64>) -> Span<Place<T>> {
+        timestamps.map(|timestamp| Place::after(self.count_before(timestamp)))
+    }
+
+    /// How many records have a timestamp below this one.
+    fn count_before(&self, timestamp: u64) -> usize {
         let after = self
             .stretches
             .partition_point(|stretch| stretch.timestamp <= timestamp);
@@ -51,21 +87,11 @@ impl<T> Sequence<T> {
         };
         let stretch = &self.stretches[before];
         let end = match self.stretches.get(after) {
-            Some(next) => next.place,
+            Some(next) => next.index,
             None => self.records.len(),
         };
-        let ahead = (timestamp - stretch.timestamp).min((end - stretch.place) as u64);
-        stretch.place + ahead as usize
-    }
-
-    /// The record with this timestamp, which is there.
-    pub fn at(&self, timestamp: u64) -> &T {
-        &self.records[self.place_from(timestamp)]
-    }
-
-    /// The records at these places.
-    pub fn range(&self, places: Range<usize>) -> &[T] {
-        &self.records[places]
+        let ahead = (timestamp - stretch.timestamp).min((end - stretch.index) as u64);
+        stretch.index + ahead as usize
     }
 }
 
@@ -74,20 +100,21 @@ impl<T> Default for Sequence<T> {
         Sequence {
             records: Vec::new(),
             stretches: Vec::new(),
+            ids: Slots::default(),
         }
     }
 }
 
-impl<T> Index<usize> for Sequence<T> {
+impl<T> Index<Place<T>> for Sequence<T> {
     type Output = T;
 
-    fn index(&self, place: usize) -> &T {
-        &self.records[place]
+    fn index(&self, place: Place<T>) -> &T {
+        &self.records[place.index()]
     }
 }
 
-impl<T> IndexMut<usize> for Sequence<T> {
-    fn index_mut(&mut self, place: usize) -> &mut T {
-        &mut self.records[place]
+impl<T> IndexMut<Place<T>> for Sequence<T> {
+    fn index_mut(&mut self, place: Place<T>) -> &mut T {
+        &mut self.records[place.index()]
     }
 }

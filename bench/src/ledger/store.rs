@@ -1,109 +1,82 @@
 //! What storing a transfer changes, and what taking it back does.
 
-use super::accounts::Sides;
+use super::place::Place;
 use super::records::Transfer;
-use super::transfers::Status;
+use super::transfers::{Role, Standing, Status};
 use super::Ledger;
 
 /// A transfer that is ok, as it is to be stored.
 pub struct Accepted {
     pub transfer: Transfer,
-    pub sides: Sides,
-    /// The place of the pending transfer that it posts or voids.
-    pub settled: Option<usize>,
+    pub standing: Standing,
 }
 
 impl Ledger {
-    /// The places of the accounts of a stored transfer.
-    pub(super) fn sides_of(&self, transfer: &Transfer) -> Sides {
-        let place = |id| {
-            self.accounts
-                .find(id)
-                .expect("a stored transfer's accounts are stored")
-        };
-        Sides {
-            debit: place(transfer.debit_account_id),
-            credit: place(transfer.credit_account_id),
-        }
-    }
-
     pub(super) fn add_transfer(&mut self, accepted: Accepted) {
-        let Accepted {
-            transfer,
-            sides,
-            settled,
-        } = accepted;
-        self.transfers.push(transfer);
-        if let Some(place) = settled {
-            let pending = self.transfers.records[place];
-            self.forget_expiry(&pending);
-            self.settle(place, sides, status_after(&transfer));
+        let Accepted { transfer, standing } = accepted;
+        let sides = standing.sides;
+        match standing.role {
+            Role::Moving => self.accounts.post(sides, transfer.amount),
+            Role::Pending(_) => self.accounts.set_aside(sides, &transfer),
+            Role::Settling(pending) if transfer.is_post() => {
+                self.settle(pending, Status::Posted);
+                self.accounts.post(sides, transfer.amount);
+            }
+            Role::Settling(pending) => self.settle(pending, Status::Voided),
         }
-        if transfer.is_pending() {
-            self.await_expiry(&transfer);
-            self.accounts.set_aside(sides, &transfer);
-        } else if !transfer.is_void() {
-            self.accounts.post(sides, transfer.amount);
-        }
-        self.accounts.list(sides, transfer.timestamp);
+        self.accounts.note_balances(sides, transfer.timestamp);
+        self.transfers.push(transfer, standing);
     }
 
     /// Takes the last transfer back.
     pub(super) fn take_back_transfer(&mut self) {
-        let Some(transfer) = self.transfers.pop() else {
+        let Some((transfer, Standing { sides, role })) = self.transfers.pop() else {
             return;
         };
-        let sides = self.sides_of(&transfer);
-        self.accounts.unlist(sides);
-        if transfer.is_pending() {
-            self.forget_expiry(&transfer);
-            self.accounts.give_back(sides, &transfer);
-        } else if !transfer.is_void() {
-            self.accounts.take_back_post(sides, transfer.amount);
-        }
-        if transfer.is_settling() {
-            self.reopen(transfer.pending_id, sides);
+        self.accounts.forget_balances(sides);
+        match role {
+            Role::Moving => self.accounts.take_back_post(sides, transfer.amount),
+            Role::Pending(_) => self.accounts.give_back(sides, &transfer),
+            Role::Settling(pending) => {
+                if transfer.is_post() {
+                    self.accounts.take_back_post(sides, transfer.amount);
+                }
+                self.reopen(pending);
+            }
         }
     }
 
     /// Ends the pending transfer at a place.
-    pub(super) fn settle(&mut self, place: usize, sides: Sides, status: Status) {
+    pub(super) fn settle(&mut self, place: Place<Transfer>, status: Status) {
         self.transfers.set_status(place, status);
+        let sides = self.transfers.standing(place).sides;
         self.accounts
             .give_back(sides, &self.transfers.records[place]);
     }
 
-    /// Opens a pending transfer again.
-    fn reopen(&mut self, pending_id: u128, sides: Sides) {
-        let Some(place) = self.transfers.find(pending_id) else {
-            return;
-        };
-        let pending = self.transfers.records[place];
+    /// Opens the pending transfer at a place again.
+    fn reopen(&mut self, place: Place<Transfer>) {
         self.transfers.set_status(place, Status::Open);
-        self.await_expiry(&pending);
-        self.accounts.set_aside(sides, &pending);
+        let sides = self.transfers.standing(place).sides;
+        self.accounts
+            .set_aside(sides, &self.transfers.records[place]);
     }
 
-    fn await_expiry(&mut self, pending: &Transfer) {
-        if pending.timeout != 0 {
-            self.expiries
-                .insert((pending.expires_at(), pending.timestamp));
+    /// Lists the transfers that were added, each behind those that are listed, and awaits the expiry of those that are open.
+    pub(super) fn list_transfers(&mut self) {
+        self.transfers.index.update(&self.transfers.records);
+        for (place, transfer) in self.transfers.records.added_after(self.listed) {
+            let standing = self.transfers.standing(place);
+            self.accounts.list(standing.sides, place);
+            match standing.role {
+                Role::Pending(Status::Open) => self.expiries.await_that_of(transfer, place),
+                Role::Settling(pending) => self
+                    .expiries
+                    .forget_that_of(&self.transfers.records[pending], pending),
+                _ => (),
+            }
         }
-    }
-
-    fn forget_expiry(&mut self, pending: &Transfer) {
-        if pending.timeout != 0 {
-            self.expiries
-                .remove(&(pending.expires_at(), pending.timestamp));
-        }
-    }
-}
-
-/// What becomes of the pending transfer that a transfer posts or voids.
-fn status_after(settling: &Transfer) -> Status {
-    if settling.is_post() {
-        Status::Posted
-    } else {
-        Status::Voided
+        self.accounts.list_balances();
+        self.listed = self.transfers.records.len();
     }
 }

@@ -1,30 +1,30 @@
-//! The union of two lists of timestamps that have none in common, from either end.
+//! The union of two lists that have nothing in common, from either end.
 
-/// What is left of two rising lists without a common timestamp.
+/// What is left of two rising lists without a common key.
 #[derive(Clone, Copy)]
-pub struct Union<'l> {
-    first: &'l [u64],
-    second: &'l [u64],
+pub struct Union<'l, K> {
+    first: &'l [K],
+    second: &'l [K],
 }
 
-impl<'l> Union<'l> {
-    pub fn new(first: &'l [u64], second: &'l [u64]) -> Self {
+impl<'l, K> Union<'l, K> {
+    pub fn new(first: &'l [K], second: &'l [K]) -> Self {
         Union { first, second }
     }
 }
 
-impl Iterator for Union<'_> {
-    type Item = u64;
+impl<K: Copy + Ord> Iterator for Union<'_, K> {
+    type Item = K;
 
-    fn next(&mut self) -> Option<u64> {
+    fn next(&mut self) -> Option<K> {
         let list = match (self.first.first(), self.second.first()) {
             (Some(first), Some(second)) if second < first => &mut self.second,
             (None, _) => &mut self.second,
             _ => &mut self.first,
         };
-        let (timestamp, rest) = list.split_first()?;
+        let (key, rest) = list.split_first()?;
         *list = rest;
-        Some(*timestamp)
+        Some(*key)
     }
 
     fn size_hint(&self) -> (usize, Option<usize>) {
@@ -33,17 +33,17 @@ impl Iterator for Union<'_> {
     }
 }
 
-impl DoubleEndedIterator for Union<'_> {
-    fn next_back(&mut self) -> Option<u64> {
+impl<K: Copy + Ord> DoubleEndedIterator for Union<'_, K> {
+    fn next_back(&mut self) -> Option<K> {
         let list = match (self.first.last(), self.second.last()) {
             (Some(first), Some(second)) if second > first => &mut self.second,
             (None, _) => &mut self.second,
             _ => &mut self.first,
         };
-        let (timestamp, rest) = list.split_last()?;
+        let (key, rest) = list.split_last()?;
         *list = rest;
-        Some(*timestamp)
+        Some(*key)
     }
 }
 
-impl ExactSizeIterator for Union<'_> {}
+impl<K: Copy + Ord> ExactSizeIterator for Union<'_, K> {}

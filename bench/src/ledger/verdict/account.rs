@@ -9,7 +9,7 @@ use crate::ledger::Ledger;
 /// The account that an event is stored as at a timestamp, or why it isn't.
 pub fn judge_account(ledger: &Ledger, timestamp: u64, event: &Account) -> Result<Account, Outcome> {
     check_alone(event)?;
-    match ledger.accounts.get(event.id) {
+    match ledger.accounts.records.get(event.id) {
         Some(stored) => Err(repeated(event, stored)),
         None => Ok(Account {
             timestamp,

@@ -7,6 +7,7 @@ use crate::ledger::limits::{AMOUNT_MAX, ID_MAX, TIMESTAMP_MAX};
 use crate::ledger::outcome::Outcome;
 use crate::ledger::records::{Account, Transfer};
 use crate::ledger::store::Accepted;
+use crate::ledger::transfers::{Role, Standing, Status};
 use crate::ledger::Ledger;
 
 /// Judges a transfer that is neither post nor void.
@@ -17,7 +18,7 @@ pub fn judge_moving(
 ) -> Result<Accepted, Outcome> {
     check_alone(event)?;
     check_id(ledger, event)?;
-    let accounts = &ledger.accounts;
+    let accounts = &ledger.accounts.records;
     let debit = accounts
         .find(event.debit_account_id)
         .ok_or(Outcome::DebitAccountNotFound)?;
@@ -28,15 +29,17 @@ pub fn judge_moving(
         timestamp,
         ..*event
     };
-    check_sides(
-        &transfer,
-        &accounts.records[debit],
-        &accounts.records[credit],
-    )?;
+    check_sides(&transfer, &accounts[debit], &accounts[credit])?;
     Ok(Accepted {
         transfer,
-        sides: Sides { debit, credit },
-        settled: None,
+        standing: Standing {
+            sides: Sides { debit, credit },
+            role: if event.is_pending() {
+                Role::Pending(Status::Open)
+            } else {
+                Role::Moving
+            },
+        },
     })
 }
 

@@ -6,7 +6,7 @@ use crate::ledger::limits::{AMOUNT_MAX, ID_MAX};
 use crate::ledger::outcome::Outcome;
 use crate::ledger::records::{Account, Transfer};
 use crate::ledger::store::Accepted;
-use crate::ledger::transfers::Status;
+use crate::ledger::transfers::{Role, Standing, Status};
 use crate::ledger::Ledger;
 
 /// Judges a post or void.
@@ -16,16 +16,19 @@ pub fn judge_settling(
     event: &Transfer,
 ) -> Result<Accepted, Outcome> {
     check_alone(event)?;
-    let Some(place) = ledger.transfers.find(event.pending_id) else {
+    let Some(place) = ledger.transfers.records.find(event.pending_id) else {
         check_id(ledger, event)?;
         return Err(Outcome::PendingTransferNotFound);
     };
     let pending = &ledger.transfers.records[place];
     let filled = filled_in(pending, event);
     check_id(ledger, &filled)?;
+    let Standing { sides, role } = *ledger.transfers.standing(place);
+    let Role::Pending(status) = role else {
+        return Err(Outcome::PendingTransferNotPending);
+    };
     check_fit(pending, &filled)?;
-    check_status(pending, ledger.transfers.status(place), timestamp)?;
-    let sides = ledger.sides_of(pending);
+    check_status(pending, status, timestamp)?;
     if event.is_post() {
         let is_closed = |place| ledger.accounts.records[place].has(Account::CLOSED);
         refuse(is_closed(sides.debit), Outcome::DebitAccountAlreadyClosed)?;
@@ -36,8 +39,10 @@ pub fn judge_settling(
             timestamp,
             ..filled
         },
-        sides,
-        settled: Some(place),
+        standing: Standing {
+            sides,
+            role: Role::Settling(place),
+        },
     })
 }
 
@@ -89,7 +94,6 @@ fn own_or<V: Default + PartialEq>(own: V, pending: V) -> V {
 
 /// Whether a post or void, filled in, fits its pending transfer.
 fn check_fit(pending: &Transfer, filled: &Transfer) -> Result<(), Outcome> {
-    refuse(!pending.is_pending(), Outcome::PendingTransferNotPending)?;
     refuse(
         filled.debit_account_id != pending.debit_account_id,
         Outcome::PendingTransferHasDifferentDebitAccountId,
@@ -117,18 +121,12 @@ fn check_fit(pending: &Transfer, filled: &Transfer) -> Result<(), Outcome> {
 }
 
 /// Whether a pending transfer is open at a moment. Its time may be over before a pulse says so.
-fn check_status(pending: &Transfer, status: Option<Status>, moment: u64) -> Result<(), Outcome> {
+fn check_status(pending: &Transfer, status: Status, moment: u64) -> Result<(), Outcome> {
     let is_overdue = pending.timeout != 0 && pending.expires_at() <= moment;
-    refuse(
-        status == Some(Status::Posted),
-        Outcome::PendingTransferAlreadyPosted,
-    )?;
-    refuse(
-        status == Some(Status::Voided),
-        Outcome::PendingTransferAlreadyVoided,
-    )?;
-    refuse(
-        status == Some(Status::Expired) || is_overdue,
-        Outcome::PendingTransferExpired,
-    )
+    match status {
+        Status::Posted => Err(Outcome::PendingTransferAlreadyPosted),
+        Status::Voided => Err(Outcome::PendingTransferAlreadyVoided),
+        Status::Expired => Err(Outcome::PendingTransferExpired),
+        Status::Open => refuse(is_overdue, Outcome::PendingTransferExpired),
+    }
 }
