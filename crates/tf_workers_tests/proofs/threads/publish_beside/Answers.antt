@@ -15,8 +15,8 @@ heap-sync = search sendable depth 20
 heap-frees : Frees ghosts ghosts.dealloc_token
 heap-frees = frees
 
-pub publish_in_thread-requires-sync-P : goal.publish_in_thread-requires-sync-P
-publish_in_thread-requires-sync-P g c κs within =
+pub publish_in_thread-receipts-requires-sync-P : goal.publish_in_thread-receipts-requires-sync-P
+publish_in_thread-receipts-requires-sync-P g c κs within =
     let T-send = c.type_bounds.send-T in
     let C-send = c.type_bounds.send-C in
     let S-send = c.type_bounds.send-S in
