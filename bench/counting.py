@@ -6,7 +6,8 @@ import sys
 import tempfile
 from pathlib import Path
 
-from measuring import SEED, build, made_by, write_section
+from measuring import SEED, UNPROVED, made_by, write_section
+from unproved import build
 
 HEADING = "Where an ingest's instructions go"
 COUNT = 100_000
@@ -94,7 +95,7 @@ def run(_words):
     ]
     table = "\n".join(f"| {name} | {count:,.0f} | {count / (events + publish):.0%} |" for name, count in rows)
     text = (
-        f"{made_by(' profile')} Instructions a transfer, of `ingest_rising` of {COUNT:,} transfers without merges, counted by "
+        f"{made_by(' profile')} {UNPROVED} Instructions a transfer, of `ingest_rising` of {COUNT:,} transfers without merges, counted by "
         "valgrind's callgrind; the 10,000 accounts that are stored first are in it. Each byte that one instruction sets or moves "
         f"in a loop counts as one.\n\n| part | instructions a transfer | of all |\n|---|---|---|\n{table}"
     )

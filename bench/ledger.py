@@ -2,7 +2,8 @@
 import statistics
 import sys
 
-from measuring import SEED, build, build_plain, made_by, measure, write_section
+from measuring import SEED, UNPROVED, build_plain, made_by, measure, write_section
+from unproved import build
 
 HEADING = "A ledger"
 TIMES = 3
@@ -209,7 +210,7 @@ def text(rows, targets):
     """The section of a whole run."""
     what = "\n".join(f"- `{name}`: {what}" for name, what in INGEST + QUERIES)
     return (
-        f"{made_by(' ledger')} A time is the median of {TIMES} runs, the sides taking turns; a peak is the greatest memory of a "
+        f"{made_by(' ledger')} {UNPROVED} A time is the median of {TIMES} runs, the sides taking turns; a peak is the greatest memory of a "
         "process, with its set-up. There are 10,000 accounts, of which half keep history. A rate is ours by plain Rust's. "
         "Ours is a forest, which is published after each batch where nothing else is said; merges follow each publish, in the "
         "same thread, until no row has any left, or there are none. The last columns are the parts of our time that went into "

@@ -1,5 +1,6 @@
-"""What both parts of the benchmark share: programs that are built, run and measured, and the file with the results."""
+"""What the parts of the benchmark share: programs that are built, run and measured, and the file with the results."""
 import datetime
+import functools
 import os
 import platform
 import subprocess
@@ -11,13 +12,28 @@ from room import TOP
 
 RESULTS = TOP / "bench/RESULTS.md"
 SEED = 1
+# what a section says of a program that unproved.py built
+UNPROVED = (
+    "Ours is built without the proof of its own code, into the machine code of a proved build ([README](README.md)); the crates that it "
+    "measures are proved by the gate."
+)
+BUSY = (
+    "**Others worked on the machine** (its load was {load:.0f} on average): so a time is that of the processor, and not the time that passed; "
+    "shared caches make it longer than on a quiet machine, for both sides."
+)
+
+
+class Machine:
+    """Whether others work on it: then times are of the processor, and not of the clock."""
+
+    is_busy = False
 
 
 def say(line):
     print(line, file=sys.stderr, flush=True)
 
 
-def build(crate):
+def prove_and_build(crate):
     """Proves and builds a program of bench/proved, and gives its path."""
     place = room.kept()
     folder = place / "crates" / crate
@@ -38,11 +54,20 @@ def build_plain(name):
     return TOP / "bench/target/release" / name
 
 
+@functools.lru_cache(maxsize=None)
+def environment():
+    """That of a program that is measured. On a busy machine a library gives it the time of the thread's processor where it asks for the clock."""
+    if not Machine.is_busy:
+        return os.environ
+    subprocess.run(["cargo", "build", "--release", "--quiet", "--examples"], cwd=TOP / "bench", check=True)
+    return {**os.environ, "LD_PRELOAD": str(TOP / "bench/target/release/examples/libprocessor_clock.so")}
+
+
 def measure(program, *words):
     """The numbers that one run prints, and the greatest memory that its process held, in bytes."""
     words = [str(word) for word in (program, *words)]
     reading, writing = os.pipe()
-    child = os.posix_spawn(words[0], words, os.environ, file_actions=[(os.POSIX_SPAWN_DUP2, writing, 1)])
+    child = os.posix_spawn(words[0], words, environment(), file_actions=[(os.POSIX_SPAWN_DUP2, writing, 1)])
     os.close(writing)
     with os.fdopen(reading) as out:
         text = out.read()
@@ -81,7 +106,10 @@ def made_by(options=""):
     rustc = subprocess.run(["rustc", "--version"], capture_output=True, text=True).stdout.strip()
     kit = subprocess.run(["rt", "version"], capture_output=True, text=True).stdout.strip()
     where = f"on {os.cpu_count()} cores ({processor()}), with {rustc} and {kit}"
-    return f"Made by `bench/run{options}` on {datetime.date.today()} at commit {commit()}, {where}."
+    made = f"on {datetime.date.today()} at commit {commit()}, {where}."
+    if Machine.is_busy:
+        return f"Made by `bench/run busy{options}` {made} {BUSY.format(load=os.getloadavg()[2])}"
+    return f"Made by `bench/run{options}` {made}"
 
 
 def write_section(heading, text):

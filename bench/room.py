@@ -1,4 +1,4 @@
-"""Rooms in which programs of bench/proved are built: the repository's crates, and the benchmark's.
+"""Rooms in which programs are built that are measured: the repository's crates, and the benchmark's.
 
 The benchmark is measured and not shipped, so that `rt ci` is spared its proofs: sources below bench/proved have an ending
 that `rt` doesn't read, and crates.txt doesn't name their crates. A room has a crates.txt of its own, and all those sources

@@ -6,7 +6,8 @@ import sys
 import tempfile
 import time
 
-from measuring import SEED, TOP, build_plain, made_by, say, write_section
+from measuring import SEED, UNPROVED, Machine, build_plain, made_by, write_section
+from unproved import build
 
 HEADING = "Whole scripts"
 TIMES = 3
@@ -22,7 +23,8 @@ class Side:
 
     def __init__(self, *words):
         self.words = [str(word) for word in words]
-        self.times = []
+        self.passed = []
+        self.processors = []
         self.peak = 0
         self.answers = set()
 
@@ -32,7 +34,8 @@ class Side:
         start = time.monotonic()
         child = os.posix_spawn(self.words[0], self.words, os.environ, file_actions=actions)
         _, status, usage = os.wait4(child, 0)
-        self.times.append(time.monotonic() - start)
+        self.passed.append(time.monotonic() - start)
+        self.processors.append(usage.ru_utime + usage.ru_stime)
         if status != 0:
             sys.exit(f"bench/run: {' '.join(self.words)}: status {status}")
         self.peak = max(self.peak, usage.ru_maxrss * 1024)
@@ -41,19 +44,12 @@ class Side:
 
     @property
     def time(self):
-        return statistics.median(self.times)
-
-
-def tigerforest():
-    """Proves and builds the program of this repository, and gives its path."""
-    say("proving and building tigerforest")
-    subprocess.run([TOP / "tigerforest", "run", TOP / "examples/first-transfer.script"], stdout=subprocess.DEVNULL, check=True)
-    return TOP / "out/tigerforest"
+        return statistics.median(self.processors if Machine.is_busy else self.passed)
 
 
 def run(words):
     """Runs the script by both programs, compares what they print, and writes the section."""
-    ours, plain = tigerforest(), build_plain("script")
+    ours, plain = build("tigerforest"), build_plain("script")
     with tempfile.TemporaryDirectory() as folder:
         script, answer = os.path.join(folder, "script"), os.path.join(folder, "answer")
         with open(script, "wb") as file:
@@ -77,7 +73,7 @@ def run(words):
 def text(row):
     """The section of a run."""
     return (
-        f"{made_by(' scripts')} A time is the median of {TIMES} runs of a whole program, the sides taking turns: it reads the text, runs it "
+        f"{made_by(' scripts')} {UNPROVED} A time is the median of {TIMES} runs of a whole program, the sides taking turns: it reads the text, runs it "
         "and writes the answer into a file, which is the same of both. The script stores 10,000 accounts and the transfers between "
         "them, in batches of 8,190, each followed by a publish and by 100 queries of the first ten transfers of an account. "
         "The ratio is plain Rust's time by ours.\n\n" + "\n".join([*HEAD, row])

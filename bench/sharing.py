@@ -3,7 +3,8 @@ import os
 import statistics
 import sys
 
-from measuring import SEED, build, build_plain, made_by, measure, write_section
+from measuring import SEED, UNPROVED, build_plain, made_by, measure, write_section
+from unproved import build
 
 HEADING = "A ledger with readers"
 TIMES = 3
@@ -125,7 +126,7 @@ def run(words):
 def text(rows, targets):
     """The section of a whole run."""
     return (
-        f"{made_by(' shared')} A number is the median of {TIMES} runs, the sides taking turns; a peak is the greatest memory of a "
+        f"{made_by(' shared')} {UNPROVED} A number is the median of {TIMES} runs, the sides taking turns; a peak is the greatest memory of a "
         f"process. Clients store {COUNT:,} transfers between 10,000 accounts together, each in a thread of its own, in batches of 8,190, and "
         "publish after each. Each reader, in a thread of its own, brings its version up to date and asks for the first ten transfers of "
         "an account, over and over, until all is stored. Ours is a store in a `Mutex`, which a client holds for a batch, its publish and "

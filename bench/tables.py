@@ -2,7 +2,7 @@
 import statistics
 import sys
 
-from measuring import SEED, build, build_plain, made_by, measure, write_section
+from measuring import SEED, build_plain, made_by, measure, prove_and_build, write_section
 
 HEADING = "Trees, tables, rows of tables and scans"
 TIMES = 5
@@ -106,7 +106,7 @@ def target(name, ratio):
 
 def run(words):
     """Runs the workloads whose names contain one of the words, or all of them, and then writes their section."""
-    programs = build("tf_bench"), build_plain("plain")
+    programs = prove_and_build("tf_bench"), build_plain("plain")
     print("\n".join(HEAD), flush=True)
     rows, targets = [], []
     for name, count, _ in WORKLOADS:
