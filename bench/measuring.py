@@ -14,8 +14,8 @@ RESULTS = TOP / "bench/RESULTS.md"
 SEED = 1
 # what a section says of a program that unproved.py built
 UNPROVED = (
-    "Ours is built without the proof of its own code, into the machine code of a proved build ([README](README.md)); the crates that it "
-    "measures are proved by the gate."
+    "Ours is built without the proof of its own code, into all but the machine code of a proved build ([README](README.md)); the crates that "
+    "it measures are proved by the gate."
 )
 BUSY = (
     "**Others worked on the machine** (its load was {load:.0f} on average): so a time is that of the processor, and not the time that passed; "
