@@ -1,4 +1,4 @@
-"""Builds programs without their proof, into the machine code that a proved build would have: see modules.py.
+"""Builds programs without their proof, into all but the machine code that a proved build would have: see modules.py.
 
 Of what isn't proved `rt try` alone compiles anything. Its toolchain's clang is given a stand-in here, which keeps the module that it is to
 compile with checks, and stops. From the room this takes some minutes, once for each state of the sources.
