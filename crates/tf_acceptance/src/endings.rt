@@ -2,6 +2,7 @@
 
 use crate::asserts::assert_at;
 use linked_list_allocator::LocalHeap;
+use std::alloc::Global;
 use std::io;
 use std::io::Write;
 use std::process::Abort;
@@ -30,21 +31,73 @@ transfer id=5 debit_account_id=1 credit_account_id=2 amount=30 pending_id=0 user
 rows 1
 ";
 
-/// A writer that takes a few bytes in each call, so many in all, and then fails.
-#[derive(Drop)]
-struct Narrow {
-    taken: Vec<u8>,
-    room: usize,
+/// How a writer takes bytes.
+#[derive(Clone, Copy)]
+enum Manner {
+    /// A few in each call, and when there is no room it fails.
+    FewAtOnce,
+    /// As many as there is room for. Then it fails once, and takes all bytes from then on.
+    FailsOnce,
+    /// One in each second call, and it is interrupted in those before.
+    Interrupted,
+    /// None, and it doesn't fail.
+    TakesNothing,
 }
 
-impl Write for Narrow {
-    fn write(&mut self, buf: &[u8]) -> io::Result<usize> {
-        let count = buf.len().min(self.room).min(3);
-        if count == 0 {
-            return Err(io::Error::from(io::ErrorKind::StorageFull));
+/// A writer with room for so many bytes.
+#[derive(Drop)]
+struct Taker {
+    taken: Vec<u8>,
+    room: usize,
+    manner: Manner,
+    has_failed: bool,
+}
+
+impl Taker {
+    fn new(alloc: Global, manner: Manner, room: usize) -> Taker {
+        Taker {
+            taken: Vec::new(alloc),
+            room,
+            manner,
+            has_failed: false,
         }
+    }
+
+    /// How many of so many bytes it takes, or how it fails.
+    fn count(&mut self, count: usize) -> Result<usize, io::ErrorKind> {
+        let count = match self.manner {
+            Manner::FewAtOnce => count.min(self.room).min(3),
+            Manner::FailsOnce if self.has_failed => return Ok(count),
+            Manner::FailsOnce => count.min(self.room),
+            Manner::Interrupted => return self.interrupted(count),
+            Manner::TakesNothing => return Ok(0),
+        };
+        if count == 0 {
+            self.has_failed = true;
+            return Err(io::ErrorKind::StorageFull);
+        }
+        Ok(count)
+    }
+
+    /// Interrupted, or one byte.
+    fn interrupted(&mut self, count: usize) -> Result<usize, io::ErrorKind> {
+        self.has_failed = !self.has_failed;
+        if self.has_failed {
+            Err(io::ErrorKind::Interrupted)
+        } else {
+            Ok(count.min(1))
+        }
+    }
+}
+
+impl Write for Taker {
+    fn write(&mut self, buf: &[u8]) -> io::Result<usize> {
+        let count = match self.count(buf.len()) {
+            Ok(count) => count.min(buf.len()),
+            Err(kind) => return Err(io::Error::from(kind)),
+        };
         self.taken.extend_from_slice(&buf[..count])?;
-        self.room -= count;
+        self.room = self.room.saturating_sub(count);
         Ok(count)
     }
 
@@ -97,146 +150,61 @@ fn report_keeps_to_the_line_where_the_writer_fails(rt: HostRuntime) {
     });
     let line = b"bad line 12 column 34\n";
     for room in 0..=line.len() {
-        let mut err = Narrow {
-            taken: Vec::new(rt.alloc()),
-            room,
-        };
+        let mut err = Taker::new(rt.alloc(), Manner::FewAtOnce, room);
         assert!(rt; report(&fault, &mut err) == 1);
         assert!(rt; err.taken.as_slice() == &line[..room]);
     }
 }
 
-/// A run whose writer has room for so many bytes, fewer than the answer has, ends where the writer fails.
-fn assert_cut_off(rt: &(impl Abort + AllocGlobal), room: usize) {
-    let mut out = Narrow {
-        taken: Vec::new(rt.alloc()),
-        room,
-    };
-    let outcome = run_script_plainly(rt.alloc(), SCRIPT.as_bytes(), &mut out);
-    assert_at(rt, is_full(&outcome), "room", room as u64);
-    let begun = ANSWER.as_bytes().starts_with(out.taken.as_slice());
-    assert!(rt; begun && out.taken.len() == room);
-}
-
-/// Whether a run ended since its writer had no room.
-fn is_full(outcome: &Result<(), RunFault>) -> bool {
-    match outcome {
-        Err(RunFault::CannotWrite(error)) => error.kind() == io::ErrorKind::StorageFull,
+/// Whether a run ends since its writer fails like this.
+fn is_ended_by(alloc: Global, out: &mut Taker, kind: io::ErrorKind) -> bool {
+    match run_script_plainly(alloc, SCRIPT.as_bytes(), out) {
+        Err(RunFault::CannotWrite(error)) => error.kind() == kind,
         Ok(()) | Err(_) => false,
     }
+}
+
+/// Whether a run whose writer has room for so many bytes, fewer than the answer has, ends where the writer fails. Nothing is
+/// written after that.
+fn is_cut_off(alloc: Global, manner: Manner, room: usize) -> bool {
+    let mut out = Taker::new(alloc, manner, room);
+    let is_full = is_ended_by(alloc, &mut out, io::ErrorKind::StorageFull);
+    is_full && out.taken.len() == room && ANSWER.as_bytes().starts_with(out.taken.as_slice())
+}
+
+/// Whether a run writes the whole answer.
+fn is_whole(alloc: Global, manner: Manner, room: usize) -> bool {
+    let mut out = Taker::new(alloc, manner, room);
+    let outcome = run_script_plainly(alloc, SCRIPT.as_bytes(), &mut out);
+    outcome.is_ok() && out.taken.as_slice() == ANSWER.as_bytes()
 }
 
 #[test]
 fn writer_that_fails_ends_the_run(rt: HostRuntime) {
     for room in 0..ANSWER.len() {
-        assert_cut_off(&rt, room);
+        let holds = is_cut_off(rt.alloc(), Manner::FewAtOnce, room);
+        assert_at(&rt, holds, "room", room as u64);
     }
-    let mut out = Narrow {
-        taken: Vec::new(rt.alloc()),
-        room: ANSWER.len(),
-    };
-    assert!(rt; run_script_plainly(rt.alloc(), SCRIPT.as_bytes(), &mut out).is_ok());
-    assert!(rt; out.taken.as_slice() == ANSWER.as_bytes());
-}
-
-/// A writer that takes so many bytes, then fails once, and takes all bytes from then on.
-#[derive(Drop)]
-struct FailsOnce {
-    taken: Vec<u8>,
-    room: usize,
-    has_failed: bool,
-}
-
-impl Write for FailsOnce {
-    fn write(&mut self, buf: &[u8]) -> io::Result<usize> {
-        if self.has_failed {
-            self.taken.extend_from_slice(buf)?;
-            return Ok(buf.len());
-        }
-        let count = buf.len().min(self.room);
-        if count == 0 {
-            self.has_failed = true;
-            return Err(io::Error::from(io::ErrorKind::StorageFull));
-        }
-        self.taken.extend_from_slice(&buf[..count])?;
-        self.room -= count;
-        Ok(count)
-    }
-
-    fn flush(&mut self) -> io::Result<()> {
-        Ok(())
-    }
+    assert!(rt; is_whole(rt.alloc(), Manner::FewAtOnce, ANSWER.len()));
 }
 
 #[test]
 fn nothing_is_written_after_a_failure(rt: HostRuntime) {
     for room in 0..ANSWER.len() {
-        let mut out = FailsOnce {
-            taken: Vec::new(rt.alloc()),
-            room,
-            has_failed: false,
-        };
-        let outcome = run_script_plainly(rt.alloc(), SCRIPT.as_bytes(), &mut out);
-        assert_at(&rt, outcome.is_err(), "room", room as u64);
-        assert!(rt; out.taken.as_slice() == &ANSWER.as_bytes()[..room]);
-    }
-}
-
-/// A writer that is interrupted before each byte that it takes.
-#[derive(Drop)]
-struct Interrupted {
-    taken: Vec<u8>,
-    was_interrupted: bool,
-}
-
-impl Write for Interrupted {
-    fn write(&mut self, buf: &[u8]) -> io::Result<usize> {
-        self.was_interrupted = !self.was_interrupted;
-        if self.was_interrupted {
-            return Err(io::Error::from(io::ErrorKind::Interrupted));
-        }
-        let count = buf.len().min(1);
-        self.taken.extend_from_slice(&buf[..count])?;
-        Ok(count)
-    }
-
-    fn flush(&mut self) -> io::Result<()> {
-        Ok(())
+        let holds = is_cut_off(rt.alloc(), Manner::FailsOnce, room);
+        assert_at(&rt, holds, "room", room as u64);
     }
 }
 
 #[test]
 fn interrupted_write_is_tried_again(rt: HostRuntime) {
-    let mut out = Interrupted {
-        taken: Vec::new(rt.alloc()),
-        was_interrupted: false,
-    };
-    assert!(rt; run_script_plainly(rt.alloc(), SCRIPT.as_bytes(), &mut out).is_ok());
-    assert!(rt; out.taken.as_slice() == ANSWER.as_bytes());
-}
-
-/// A writer that takes no byte and doesn't fail.
-#[derive(Drop)]
-struct TakesNothing;
-
-impl Write for TakesNothing {
-    fn write(&mut self, buf: &[u8]) -> io::Result<usize> {
-        Ok(0)
-    }
-
-    fn flush(&mut self) -> io::Result<()> {
-        Ok(())
-    }
+    assert!(rt; is_whole(rt.alloc(), Manner::Interrupted, ANSWER.len()));
 }
 
 #[test]
 fn writer_that_takes_nothing_ends_the_run(rt: HostRuntime) {
-    match run_script_plainly(rt.alloc(), SCRIPT.as_bytes(), &mut TakesNothing) {
-        Err(RunFault::CannotWrite(error)) => {
-            assert!(rt; error.kind() == io::ErrorKind::WriteZero);
-        }
-        Ok(()) | Err(_) => assert!(rt; false),
-    }
+    let mut out = Taker::new(rt.alloc(), Manner::TakesNothing, 0);
+    assert!(rt; is_ended_by(rt.alloc(), &mut out, io::ErrorKind::WriteZero));
 }
 
 /// What was written is the whole answer, or the lines of some commands, from the first one on, where memory was refused.

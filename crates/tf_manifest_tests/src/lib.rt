@@ -1,18 +1,8 @@
-//! Tests of rows of tables, by public calls alone: each call on its happy path, each refusal, want of memory among them,
-//! and a merge in another thread. There is no code here beside them.
+//! Tests of the manifest, by public calls alone: its kinds, runs that are installed once and under its limit, and a merge in another
+//! thread. There is no code here beside them.
 #![tactic(auto)]
 
-#[cfg(test)]
-mod fixture;
-#[cfg(test)]
-mod installs;
 #[cfg(test)]
 mod kinds;
 #[cfg(test)]
 mod manifests;
-#[cfg(test)]
-mod refusals;
-#[cfg(test)]
-mod rows;
-#[cfg(test)]
-mod trials;

@@ -6,11 +6,6 @@ ghost use Rattle.std.specs.Prelude.{◌≡◌, ◌<◌};
 ghost use Rattle.tf_manifest.specs.Registries.{AreShelves};
 ghost use Rattle.tf_store.specs.Rooms.{FitsRows};
 
-use crate::answers::Tally;
-use crate::lines::run_text;
-use crate::memory::{has_room, take_all_but};
-use crate::tested::{Parties, Tested, answers_held, answers_of};
-use crate::trial::Trial;
 use linked_list_allocator::LocalHeap;
 use std::alloc::{Allocator, Global};
 use std::marker::Brand;
@@ -27,15 +22,14 @@ use tf_store::{
     BlankStore, Share, Store, StoreName, StoreOf, StoredCopies, StoredForest, VersionCopies,
     VersionOf,
 };
+use tf_store_trials::{Parties, Tested, answers_held, answers_of};
+use tf_trials::{AMPLE, Stopped, Tally, Trial, has_room, run_text, take_all_but};
 
 /// How many shares each store has.
 const SHARES: u32 = 64;
 
-/// Bytes of a heap on which all of most tests has room.
-pub const AMPLE: usize = 1 << 22;
-
-/// Bytes that the tables of 200 transfers take at least: a record and an id of each.
-const KEPT: usize = 200 * (128 + 32);
+/// Bytes that a version of 200 transfers keeps at least: 43 KB of references, and the tables.
+const KEPT: usize = 80_000;
 
 /// What a text is run on.
 #[derive(Clone, Copy)]
@@ -120,7 +114,14 @@ fn assert_gathered<
 /// The shares and the readers of a store on a heap.
 type Given<V, A, S> = (Vec<Share<S>, A>, Vec<Reader<V, A, S>, A>);
 
-/// Runs a text on a store. Gives back what comes of it, the store's shares and readers, and the versions that were taken.
+/// A text was run to its end. Where it wasn't, the part is told at which it stopped.
+fn assert_ran(rt: &impl Abort, ran: Result<(), Stopped<'_>>) {
+    if let Err(Stopped { part, refusal }) = ran {
+        assert!(rt; false, "not so: {part} ({refusal:?})");
+    }
+}
+
+/// Runs a text on a store. Gives back its shares and readers, and the versions that were taken.
 fn try_store<T, A, S, C, V, R>(
     rt: &R,
     alloc: A,
@@ -128,7 +129,7 @@ fn try_store<T, A, S, C, V, R>(
     store: &mut StoreOf<T, C, A, S>,
     given: Given<V, A, S>,
     text: &str,
-) -> (Result<(), Refusal>, Parties<V, A, S>)
+) -> Parties<V, A, S>
 where
     T: SealRows<A> + Drop,
     A: Allocator + Copy,
@@ -140,8 +141,8 @@ where
     let (shares, readers) = given;
     let lists = rt.alloc();
     let mut tested = Tested::new(rt, lists, alloc, store, shares, readers);
-    let tried = run_text(rt, &mut tested, trial, text);
-    (tried, tested.into_parties())
+    assert_ran(rt, run_text(lists, &mut tested, trial, text));
+    tested.into_parties()
 }
 
 /// Readers of a store that was dropped are given nothing more.
@@ -219,7 +220,7 @@ fn with_copies<T, A, S, C, V, R>(
         Refusal,
     >,
     course: Course<'_>,
-) -> Result<(), Refusal>
+)
 where
     T: SealRows<A> + Drop,
     A: Allocator + Copy,
@@ -233,13 +234,11 @@ where
         Ok((store, shares, readers)) => {
             let mut store = store;
             let given = (shares, readers);
-            let (tried, parties) = try_store(rt, alloc, trial, &mut store, given, course.text);
+            let parties = try_store(rt, alloc, trial, &mut store, given, course.text);
             end(rt, trial, store, parties);
-            tried
         }
         Err(refusal) => {
             assert!(rt; course.fixture.lacks_memory && refusal == Refusal::NoMemory);
-            Ok(())
         }
     }
 }
@@ -252,7 +251,7 @@ fn with_rows<T, A, S, R>(
     registries: &Registries<A>,
     blank: BlankStore,
     course: Course<'_>,
-) -> Result<(), Refusal>
+)
 where
     T: EmptyRows<A> + SealRows<A> + Drop,
     A: Allocator + Copy,
@@ -264,7 +263,7 @@ where
     requires history { blank.history ≡ S.history }
     requires registries { AreShelves S.shelf registries.now }
 {
-    with_versions::<T, A, S, Version<A, S>, R>(rt, alloc, trial, registries, blank, course)
+    with_versions::<T, A, S, Version<A, S>, R>(rt, alloc, trial, registries, blank, course);
 }
 
 /// The same. It is generic in the version that readers are shown, which is named where no store is.
@@ -275,7 +274,7 @@ fn with_versions<T, A, S, V, R>(
     registries: &Registries<A>,
     blank: BlankStore,
     course: Course<'_>,
-) -> Result<(), Refusal>
+)
 where
     T: EmptyRows<A> + SealRows<A> + Drop,
     A: Allocator + Copy,
@@ -295,7 +294,7 @@ where
         trial,
         StoreOf::<T, Copies<V, A, S, &R>, A, S>::new(alloc, rt, registries, blank, SHARES, readers),
         course,
-    )
+    );
 }
 
 /// A store whose mutable tables lie on a heap.
@@ -306,7 +305,7 @@ fn with_name<'h, S: StoreName, R: Abort + AllocGlobal + Wait>(
     registries: &Registries<&'h LocalHeap>,
     blank: BlankStore,
     course: Course<'_>,
-) -> Result<(), Refusal>
+)
     requires name { blank.ledger.name ≡ S.name }
     requires parts { (blank.ledger.parts ≡ S.parts) × (S.parts ≡ 64) }
     requires history { blank.history ≡ S.history }
@@ -314,7 +313,7 @@ fn with_name<'h, S: StoreName, R: Abort + AllocGlobal + Wait>(
 {
     with_rows::<MutableTables<&'h LocalHeap>, &'h LocalHeap, S, R>(
         rt, heap, trial, registries, blank, course,
-    )
+    );
 }
 
 /// A store over these registries. Where it is to lack memory, nothing is left of the heap.
@@ -328,7 +327,8 @@ fn with_registries<'h, R: Abort + AllocGlobal + Wait>(
     if course.fixture.lacks_memory {
         take_all_but(&mut trial.filled, heap, 0)?;
     }
-    with_name::<Brand, R>(rt, heap, trial, registries, BlankStore::new(SHARES), course)
+    with_name::<Brand, R>(rt, heap, trial, registries, BlankStore::new(SHARES), course);
+    Ok(())
 }
 
 /// A store with registries of its own.

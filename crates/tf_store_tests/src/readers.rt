@@ -96,7 +96,7 @@ accounts | transfers 1001 200 | publish: 2 | mark
 follow 0 | ask held 0 then: 1000
 repeat 0 12 round N | publish: 2 | run compact | show | follow 1 | ask held 1 now: 1000
 ask held 0 then: 1000
-note | follow 0 | freed: 32000
+note | follow 0 | freed: 80000
 ask held 0 now: 1000";
 
 #[test]

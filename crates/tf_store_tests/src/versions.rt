@@ -13,7 +13,7 @@ repeat 0 5 round N | publish: 2 | ask taken 0 then: 10
 run compact
 ask taken 0 then: 10
 take | ask taken 1 now: 100 | let_taken
-show | note | let_taken | freed: 1 | let_taken: nothing";
+show | note | let_taken | freed: 44000 | let_taken: nothing";
 
 #[test]
 fn a_version_stays_whatever_happens_to_its_store(rt: HostRuntime) -> Result<(), Fail> {

@@ -3,28 +3,6 @@
 #![tactic(auto)]
 
 #[cfg(test)]
-mod crews;
-#[cfg(test)]
-mod dice;
-#[cfg(test)]
-mod events;
-#[cfg(test)]
-mod gates;
-#[cfg(test)]
 mod opening;
 #[cfg(test)]
-mod plain;
-#[cfg(test)]
-mod readers;
-#[cfg(test)]
-mod receipts;
-#[cfg(test)]
 mod storms;
-#[cfg(test)]
-mod tasks;
-#[cfg(test)]
-mod threads;
-#[cfg(test)]
-mod trials;
-#[cfg(test)]
-mod turns;

@@ -3,13 +3,6 @@ ghost use Rattle.std.specs.Prelude.{◌≡◌, ◌<◌, ◌≤◌, vec_len, IfOk
 ghost use Rattle.tf_manifest.specs.Registries.{AreShelves};
 ghost use Rattle.tf_store.specs.Rooms.{FitsRows};
 
-use crate::gates::Meetings;
-use crate::readers::{WatchedReader, watched};
-use crate::receipts::learn;
-use crate::tasks::Tasks;
-use crate::threads::publish_beside;
-use crate::trials::{Trial, Tried};
-use crate::turns::take_turns;
 use std::alloc::Global;
 use std::marker::{Brand, Send, Sync};
 use std::sync::Wait;
@@ -20,6 +13,7 @@ use tf_readers::{Copies, Publishable, Reader};
 use tf_records::Refusal;
 use tf_rows::{EmptyRows, MutableTables, SealRows};
 use tf_store::{BlankStore, Share, StoreName, StoreOf, VersionCopies, VersionOf};
+use tf_worker_trials::{Meetings, Tasks, Trial, Tried, WatchedReader, learn, take_turns, watched};
 use tf_workers::{Done, Totals, storm};
 
 /// Runs a trial on an empty store with registries of its own, which has a share for each client and two readers.
@@ -176,33 +170,8 @@ where
             let asks = tasks.asks.as_slice();
             told(storm(rt, alloc, alloc, store, shares, readers, works, asks, gate))
         }
-        Trial::Thread => try_thread(rt, alloc, store, shares, readers),
         _ => try_alone(rt, alloc, store, shares, readers, tasks, trial),
     }
-}
-
-/// A thread that locks a store and publishes, with the last share and the last reader.
-fn try_thread<T, S, C, V, R>(
-    rt: &R,
-    alloc: Global,
-    store: StoreOf<T, C, Global, S>,
-    shares: Vec<Share<S>, Global>,
-    readers: Vec<WatchedReader<V, S>, Global>,
-) -> Tried
-where
-    T: SealRows<Global> + Send + Drop,
-    S: StoreName + Send + Sync,
-    C: VersionCopies<Version<Global, S>, S> + Send + Drop,
-    V: Publishable + Drop,
-    R: Wait + Threads + Sync,
-{
-    let mut shares = shares;
-    let mut readers = readers;
-    let (Some(share), Some(reader)) = (shares.pop(), readers.pop()) else {
-        drop(store);
-        return Tried::Nothing;
-    };
-    Tried::Thread(publish_beside(rt, alloc, store, share, reader))
 }
 
 /// Whether each worker of a storm with two query workers told what it did, and clients stored what was counted.
@@ -257,7 +226,7 @@ where
         return Tried::Nothing;
     };
     match trial {
-        Trial::Receipt => Tried::Receipt(learn(rt, alloc, store, share, reader)),
+        Trial::Receipt => Tried::Receipt(try_receipt(rt, alloc, store, share, reader)),
         _ => {
             let work = tasks.works[0].as_slice();
             let asks = tasks.asks[0].as_slice();
@@ -267,4 +236,25 @@ where
             }
         }
     }
+}
+
+/// A receipt of which a reader learns.
+fn try_receipt<T, S, C, V, R>(
+    rt: &R,
+    alloc: Global,
+    store: StoreOf<T, C, Global, S>,
+    share: Share<S>,
+    reader: WatchedReader<V, S>,
+) -> bool
+where
+    T: SealRows<Global> + Drop,
+    S: StoreName,
+    C: VersionCopies<Version<Global, S>, S> + Drop,
+    V: Publishable + Drop,
+    R: Wait,
+{
+    let (mut store, mut share, mut reader) = (store, share, reader);
+    let is_learned = learn(rt, alloc, &mut store, &mut share, &mut reader.reader);
+    drop(store);
+    is_learned
 }

@@ -1,18 +1,14 @@
 //! Tests: storms, and workers in turn.
 ghost use Rattle.std.specs.Prelude.{◌≡◌, ◌<◌, ◌≤◌, vec_len};
 
-use crate::dice::Dice;
-use crate::gates::Meetings;
 use crate::opening::try_out;
-use crate::plain::plain_count;
-use crate::tasks::{Tasks, one_client, random_tasks, that_meet, transfers_between_two};
-use crate::trials::{Trial, Tried};
-use crate::turns::Turns;
 use std::marker::Sync;
 use std::process::Abort;
 use std::sync::Wait;
 use std::test::Fail;
 use std::thread::Threads;
+use tf_trials::{Dice, that_meet, transfers_between_two};
+use tf_worker_trials::{Meetings, Tasks, Trial, Tried, Turns, one_client, random_tasks, storm_of};
 use tf_workers::{Reckoning, Totals};
 
 /// Workers in turn at a store of one share.
@@ -20,8 +16,8 @@ fn turns_of<R: Abort + AllocGlobal + Wait + Threads + Sync>(
     rt: &R,
     transfers: u64,
 ) -> Result<Turns, Fail> {
-    let work = transfers_between_two(rt.alloc(), transfers)?;
-    let tasks = one_client(rt.alloc(), work)?;
+    let script = transfers_between_two(rt.alloc(), transfers)?;
+    let tasks = one_client(rt.alloc(), script)?;
     match try_out(rt, rt.alloc(), &tasks, Trial::Turns, &Meetings::new(true)) {
         Tried::Turns(turns) => Ok(turns),
         _ => Err(Fail::new("workers in turn had no memory")),
@@ -38,11 +34,10 @@ fn assert_counted<R: Abort + AllocGlobal + Wait + Threads + Sync>(
     requires clients { (0 < vec_len tasks.now.works) × (vec_len tasks.now.works ≤ 64) }
     requires asks { vec_len tasks.now.asks ≡ 2 }
 {
-    let count = plain_count(rt.alloc(), tasks.works.as_slice())?;
     let expected = Totals {
         clients: tasks.works.len() as u64,
-        stored: count,
-        shares: count,
+        stored: tasks.stored,
+        shares: tasks.stored,
         complete,
     };
     match try_out(rt, rt.alloc(), tasks, Trial::Storm, gate) {
@@ -105,16 +100,8 @@ fn a_receipt_that_a_reader_learned_is_read_back(rt: HostRuntime) -> Result<(), F
 }
 
 #[test]
-fn a_thread_locks_a_store_and_publishes(rt: HostRuntime) -> Result<(), Fail> {
-    let tasks = one_client(rt.alloc(), Vec::new(rt.alloc()))?;
-    let tried = try_out(&rt, rt.alloc(), &tasks, Trial::Thread, &Meetings::new(true));
-    assert!(rt; matches!(tried, Tried::Thread(true)));
-    Ok(())
-}
-
-#[test]
 fn workers_go_at_the_same_time(rt: HostRuntime) -> Result<(), Fail> {
-    let tasks = that_meet(rt.alloc())?;
+    let tasks = storm_of(rt.alloc(), that_meet(rt.alloc())?, 1, 1)?;
     let gate = Meetings::new(false);
     assert_counted(&rt, &tasks, &gate, true)?;
     assert!(rt; gate.have_met());
@@ -157,7 +144,22 @@ fn sixteen_clients_store_what_they_count_again(rt: HostRuntime) -> Result<(), Fa
 
 #[test]
 fn sixty_four_clients_store_what_they_count(rt: HostRuntime) -> Result<(), Fail> {
-    assert_rounds(&rt, 6, 64, 3)
+    assert_rounds(&rt, 6, 64, 5)
+}
+
+#[test]
+fn sixty_four_clients_store_what_they_count_again(rt: HostRuntime) -> Result<(), Fail> {
+    assert_rounds(&rt, 7, 64, 5)
+}
+
+#[test]
+fn sixty_four_clients_store_what_they_count_a_third_time(rt: HostRuntime) -> Result<(), Fail> {
+    assert_rounds(&rt, 8, 64, 5)
+}
+
+#[test]
+fn sixty_four_clients_store_what_they_count_a_fourth_time(rt: HostRuntime) -> Result<(), Fail> {
+    assert_rounds(&rt, 9, 64, 5)
 }
 
 #[test]

@@ -3,14 +3,14 @@
 
 use super::lines::push_command;
 use crate::asserts::assert_at;
-use crate::dice::Dice;
-use crate::random;
 use std::alloc::AllocError;
 use std::process::Abort;
 use std::sync::Wait;
 use std::test::Fail;
 use tf_main::run_script_plainly;
 use tf_served::run_script;
+use tf_trials::Dice;
+use tf_trials::random::{commands, one_of};
 
 /// What is asked for beside an account or the fields of records.
 const FURTHER: [&str; 10] = [
@@ -43,8 +43,8 @@ fn push_account_query(
     name: &str,
 ) -> Result<(), AllocError> {
     let id = dice.below(8);
-    let further = dice.one_of(&FURTHER);
-    let sides = dice.one_of(&SIDES);
+    let further = one_of(dice, &FURTHER);
+    let sides = one_of(dice, &SIDES);
     let line = format!(in rt.alloc(); "{name} account_id={id} {further} flags={sides}\n")?;
     script.push_str(line.as_str())
 }
@@ -56,8 +56,8 @@ fn push_query(
     dice: &mut Dice,
     name: &str,
 ) -> Result<(), AllocError> {
-    let further = dice.one_of(&FURTHER);
-    let flags = dice.one_of(&["", " flags=reversed"]);
+    let further = one_of(dice, &FURTHER);
+    let flags = one_of(dice, &["", " flags=reversed"]);
     let line = format!(in rt.alloc(); "{name} {further}{flags}\n")?;
     script.push_str(line.as_str())
 }
@@ -96,7 +96,7 @@ fn push_line(
 fn random_script(rt: &impl AllocGlobal, seed: u64) -> Result<String, Fail> {
     let mut dice = Dice::new(seed ^ 4242);
     let mut script = String::new(rt.alloc());
-    for command in random::commands(rt.alloc(), seed, 8)? {
+    for command in commands(rt.alloc(), seed, 8)? {
         push_command(rt, &mut script, &command)?;
         for _ in 0..dice.below(4) {
             push_line(rt, &mut script, &mut dice)?;

@@ -1,6 +1,6 @@
 use Rattle.std.proofs.Crossing.{crosses}
 use denote.Param.Send.{sendable}
-use Rattle.tf_workers.proofs.OnHeap.{tree-send, log-send}
+use Rattle.tf_store.proofs.OnHeap.{tree-send, log-send}
 use Rattle.tf_storm.proofs.opening.with_name.Goals as goal
 
 pub with_rows-requires-send-T : goal.with_rows-requires-send-T

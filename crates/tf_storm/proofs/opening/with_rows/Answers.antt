@@ -1,6 +1,6 @@
 use Rattle.std.proofs.Crossing.{crosses}
 use denote.Param.Send.{sendable}
-use Rattle.tf_workers.proofs.OnHeap.{version-send, version-sync}
+use Rattle.tf_store.proofs.OnHeap.{version-send, version-sync}
 use Rattle.tf_storm.proofs.opening.with_rows.Goals as goal
 
 pub with_versions-requires-send-V : goal.with_versions-requires-send-V

@@ -1,20 +1,10 @@
-use Rattle.std.proofs.Crossing.{crosses, frees}
+use Rattle.std.proofs.Crossing.{crosses}
 use Rattle.std.proofs.CrossingOver as over
-use Rattle.std.specs.contracts.alloc.Global as Heap
-use Rattle.std.specs.contracts.impls.GlobalAllocator.TheImpl.{ghosts}
-use denote.Param.Send.{IsSend, IsSync, Frees, sendable}
-use Rattle.tf_workers.proofs.Crossing.{forest-send, rows-send, store-send}
+use denote.Param.Send.{sendable}
+use Rattle.tf_store.proofs.Crossing.{forest-send, rows-send, store-send}
+use Rattle.tf_store.proofs.OnHeap.{heap-send, heap-sync, heap-frees}
 use Rattle.tf_workers.proofs.work.Work.TheSendSync as work
 use Rattle.tf_workers.proofs.storms.run_locked.Goals as goal
-
-heap-send : IsSend Heap.the_row
-heap-send = search sendable depth 20
-
-heap-sync : IsSync Heap.the_row
-heap-sync = search sendable depth 20
-
-heap-frees : Frees ghosts ghosts.dealloc_token
-heap-frees = frees
 
 pub run_asking-requires-sync-D : goal.run_asking-requires-sync-D
 run_asking-requires-sync-D g c κs within =

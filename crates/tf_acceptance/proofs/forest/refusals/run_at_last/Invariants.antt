@@ -1,5 +1,0 @@
-use Rattle.tf_journal.specs.Lawful.{IsLawfulAt}
-use Rattle.tf_acceptance.proofs.forest.refusals.run_at_last.Given as goal
-
-abbrev pub invariant-loop-refused : goal.invariant-loop-refused
-invariant-loop-refused g l = IsLawfulAt (g.M.Ledger.clock l.forest) (g.M.Ledger.journal l.forest)

@@ -1,5 +1,0 @@
-use Rattle.tf_manifest.specs.Registries.{shelf_of}
-use Rattle.tf_acceptance.proofs.versions.try_out.Given as goal
-
-abbrev pub ghosts-try_each : goal.ghosts-try_each
-ghosts-try_each g a = record { shelf = shelf_of a.registries.now }

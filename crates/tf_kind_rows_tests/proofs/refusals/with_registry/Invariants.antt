@@ -1,0 +1,5 @@
+use Rattle.std.specs.Arc.{arc_value}
+use Rattle.tf_kind_rows_tests.proofs.refusals.with_registry.Given as goal
+
+abbrev pub ghosts-with_rows : goal.ghosts-with_rows
+ghosts-with_rows g a = record { shelf = λ _. arc_value a.registry.now }
