@@ -16,6 +16,8 @@ mod receipts;
 #[cfg(test)]
 mod refusals;
 #[cfg(test)]
+mod soak;
+#[cfg(test)]
 mod threads;
 #[cfg(test)]
 mod versions;

@@ -22,12 +22,29 @@ count registered: 18 | count sealed: 42 | count held: 42
 transfers 1 1 | publish: 1
 transfers 2 1 | note | publish: registry_full | take: registry_full | same";
 
+/// Two accounts push eight tables, and a transfer of theirs ten. Under a limit of 17 it is stored and not published.
+const HALF_FULL: &str = "\
+run accounts 1000; + id=1 ledger=700 code=10; + id=2 ledger=700 code=10; end
+publish: 1 | count registered: 8
+run transfers 0; + id=5 debit_account_id=1 credit_account_id=2 amount=30 ledger=700 code=1; end
+note | publish: registry_full | publish: registry_full | same
+count registered: 8 | count book: 3";
+
+/// Under a limit of 18 it is published.
+const FITS_LAST: &str = "\
+run accounts 1000; + id=1 ledger=700 code=10; + id=2 ledger=700 code=10; end
+publish: 1 | count registered: 8
+run transfers 0; + id=5 debit_account_id=1 credit_account_id=2 amount=30 ledger=700 code=1; end
+publish: 1 | count registered: 18 | count book: 3";
+
 #[test]
 fn a_publish_of_18_tables_is_refused_under_a_limit_of_17_alone(
     rt: HostRuntime,
 ) -> Result<(), Fail> {
     try_text(&rt, Fixture::with_limit(17), FULL)?;
-    try_text(&rt, Fixture::with_limit(18), FITS)
+    try_text(&rt, Fixture::with_limit(18), FITS)?;
+    try_text(&rt, Fixture::with_limit(17), HALF_FULL)?;
+    try_text(&rt, Fixture::with_limit(18), FITS_LAST)
 }
 
 /// Five publishes push as many tables as may be pushed. Then an install is refused, and changes nothing.

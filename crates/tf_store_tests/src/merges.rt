@@ -54,3 +54,64 @@ take | ask taken 0 now: 1000";
 fn what_merges_retired_comes_back_once_readers_are_shown_them(rt: HostRuntime) -> Result<(), Fail> {
     try_text(&rt, Fixture::USUAL, SHOWN)
 }
+
+/// Jobs of one row that overlap. Ten publishes leave two tables of level 0 and four of level 1, of which a run is merged twice, and then
+/// one of level 0, which is installed before one of them: the other is stale. Then a run of level 0 is merged twice, and of level 1
+/// once: the second of the former is stale, installed behind the latter.
+const CROSSED: &str = "\
+ids 60
+accounts | round 0 | publish: 3
+repeat 1 10 round N | publish: 2
+repeat 0 4 merge 9 | install
+merge 9 | merge 9
+repeat 10 12 round N | publish: 2
+merge 9 | install | install | note | install: stale | same | install: nothing
+take | ask taken 0 now: 100 | let_taken
+repeat 12 14 round N | publish: 2
+merge 9 | merge 9 | install | merge 9 | install | note | install: stale | same | install: nothing
+take | ask taken 0 now: 100";
+
+#[test]
+fn jobs_that_overlap_are_installed_in_either_order(rt: HostRuntime) -> Result<(), Fail> {
+    try_text(&rt, Fixture::USUAL, CROSSED)
+}
+
+/// A row of 64 tables, whose run is merged twice by jobs, and once more by the publish that finds the row full. Both installs are
+/// stale.
+const OVERTAKEN: &str = "\
+accounts | transfers 1 1 | publish: 2
+repeat 2 65 transfers N 1 | publish: 1
+merge 9 | merge 9
+transfers 65 1 | publish: 1
+count registered: 733
+note | install: stale | install: stale | same | install: nothing
+take | ask taken 0 now: 300";
+
+#[test]
+fn jobs_that_a_publish_overtook_are_stale(rt: HostRuntime) -> Result<(), Fail> {
+    try_text(&rt, Fixture::USUAL, OVERTAKEN)
+}
+
+/// Four pending transfers, each published by itself. The run of their expiries is merged, and installed once two of them have expired
+/// and that was published.
+const PICKED_BEFORE: &str = "\
+run accounts 1000; + id=1 ledger=700 code=10; + id=2 ledger=700 code=10; end
+publish: 1
+run transfers 0; + id=5 debit_account_id=1 credit_account_id=2 amount=10 ledger=700 code=1 flags=pending timeout=1; end
+publish: 1
+run transfers 0; + id=6 debit_account_id=1 credit_account_id=2 amount=10 ledger=700 code=1 flags=pending timeout=1; end
+publish: 1
+run transfers 0; + id=7 debit_account_id=1 credit_account_id=2 amount=10 ledger=700 code=1 flags=pending timeout=1; end
+publish: 1
+run transfers 0; + id=8 debit_account_id=1 credit_account_id=2 amount=10 ledger=700 code=1 flags=pending timeout=1; end
+publish: 1
+merge 18 | merge 18
+run pulse 1000001004 10 | count book: 8
+publish: 0 | install | note | install: stale | same
+take | ask taken 0 now: 20
+run pulse 1000001006 10 | count book: 10";
+
+#[test]
+fn expiries_are_merged_beside_a_pulse_and_a_publish(rt: HostRuntime) -> Result<(), Fail> {
+    try_text(&rt, Fixture::USUAL, PICKED_BEFORE)
+}

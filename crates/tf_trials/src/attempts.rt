@@ -112,7 +112,7 @@ pub fn is_like_twin<F: Tried>(store: &mut F, trial: &Trial<'_>) -> bool {
 }
 
 /// Whether a call that was refused memory has left all as it was, but for tables that a publish pushed.
-fn is_as_before<F: Tried>(
+pub fn is_as_before<F: Tried>(
     store: &mut F,
     trial: &Trial<'_>,
     attempt: Attempt<'_>,

@@ -188,17 +188,24 @@ fn any_accounts(alloc: Global, dice: &mut Dice) -> Result<Command<Global>, Refus
     Ok(Command::Accounts { now: 0, events })
 }
 
-/// A command of any kind: most are batches of transfers.
-fn any_command(alloc: Global, dice: &mut Dice) -> Result<Command<Global>, Refusal> {
-    match dice.below(12) {
+/// A batch or a pulse: accounts for 0, a pulse for 1, and transfers for any other number.
+pub fn any_batch(alloc: Global, dice: &mut Dice, kind: u64) -> Result<Command<Global>, Refusal> {
+    match kind {
         0 => any_accounts(alloc, dice),
         1 => Ok(Command::Pulse {
             now: dice.below(20).wrapping_mul(SECOND),
             max: dice.below(4) as u32,
         }),
+        _ => any_transfers(alloc, dice),
+    }
+}
+
+/// A command of any kind: most are batches of transfers.
+fn any_command(alloc: Global, dice: &mut Dice) -> Result<Command<Global>, Refusal> {
+    match dice.below(12) {
         2 | 3 => Ok(Command::Publish),
         4 => Ok(Command::Compact),
-        _ => any_transfers(alloc, dice),
+        kind => any_batch(alloc, dice, kind),
     }
 }
 

@@ -15,6 +15,7 @@ mod memory;
 mod outcomes;
 mod plain;
 pub mod random;
+mod soak;
 mod trial;
 mod tried;
 mod twin;

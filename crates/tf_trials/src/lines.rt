@@ -12,6 +12,7 @@
 //! | `failing_accounts COUNT NOW`, `failing_transfers COUNT NOW` | a batch of so many events, all of which fail |
 //! | `round NUMBER [PLACE]` | an account, transfers and a pulse, which store something in each row, or one of these batches |
 //! | `any COUNT` | so many random commands, the same for each `M` |
+//! | `soak COUNT` | so many random calls of every kind, the same for each `M`, of which some find little of the heap left; the parts of each are compared with the plain ledger |
 //! | `by SHARE` | which share stores what comes next |
 //! | `publish [READER]: RECEIPTS` | a publish, which hands out so many receipts; the reader learns of the last |
 //! | `receipt PLACE CLOCK: PLACE=RESULT ..` | one of those: the clock before its batch, and its failed events, or `none` |
@@ -35,6 +36,7 @@ use crate::attempts::{Attempt, is_like_twin, try_out};
 use crate::batches::commands_in;
 use crate::calls::{act, ask, count};
 use crate::memory::{has_room, take_all_but, take_all_but_holes};
+use crate::soak::soak;
 use crate::trial::{Growth, Trial};
 use crate::tried::{Act, Acted, Counted, ROWS, Tried, Whom};
 use crate::words::{UNREADABLE, first_word, number, row, size, two_numbers};
@@ -129,6 +131,7 @@ fn holds<F: Tried>(
             is_counted(store, trial, word, rest, answer)
         }
         "receipt" => has_receipt(trial, rest, answer),
+        "soak" => soak(alloc, store, trial, number(trial, rest)?),
         "fill" | "holes" | "free" => take_room(alloc, trial, word, rest),
         "by" | "ids" | "mark" | "grow" | "outlives" => set(alloc, trial, word, rest),
         _ => match act_in(trial, word, rest)? {
