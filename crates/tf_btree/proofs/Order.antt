@@ -2,6 +2,7 @@
 use Rattle.tf_btree.proofs.Words.{◌≡◌, ℕ, suc, ◌+◌, ◌<◌, take, drop, get_or, cond, is_some, length, arith, List, [], ◌∷◌, ◌++◌, Some, None, Option, Bool, true, false, not, refl, sym, ◌∙◌, ap, subst, append_assoc, filter, find, IsTotalOrder, option_or, option_map, Ordering, Less, Equal, Greater}
 use Rattle.tf_btree.proofs.Words.{is_lt, is_eq, is_gt, ordering_reverse, append-nil, length-append, filter-append, find-append, joined, first_key, AllKeys, AllBefore, AllBeyond, Among, AllAfter, IsRising, rows_below, rows_above, rows_from, value_at, with_row, without_row}
 use Rattle.tf_btree.proofs.Parts.{joined_split}
+pub use Rattle.tf_sorted.proofs.Order.{greater_from_less, less_from_greater, below_upto, AllAfter-right, AllAfter-append, IsRising-left, IsRising-right}
 
 -- the order that a test tells
 pub less_is : (o : Ordering) → is_lt o ≡ true → o ≡ Less
@@ -25,23 +26,11 @@ greater_left Equal a b = absurd (let t : true ≡ false = b in cc)
 greater_left Greater a b = refl
 
 module _ {K : Type 0} (cmp : K → K → Ordering) (total : IsTotalOrder cmp) where
-  pub greater_from_less : (x y : K) → cmp x y ≡ Less → cmp y x ≡ Greater
-  greater_from_less x y e = total.antisymm y x ∙ ap ordering_reverse e
-
-  less_from_greater : (x y : K) → cmp x y ≡ Greater → cmp y x ≡ Less
-  less_from_greater x y e = total.antisymm y x ∙ ap ordering_reverse e
-
-  -- below what is not above k is below k
-  pub below_upto : (y x k : K) (o : Ordering) → cmp x k ≡ o → is_gt o ≡ false → cmp y x ≡ Less → cmp y k ≡ Less
-  below_upto y x k Less e h l = total.trans y x k l e
-  below_upto y x k Equal e h l = less_from_greater k y (sym (total.congr x k y e) ∙ greater_from_less y x l)
-  below_upto y x k Greater e h l = absurd (let t : true ≡ false = h in cc)
-
   -- above what is not below k is above k
   pub beyond_from : (f r k : K) (o : Ordering) → cmp f k ≡ o → is_lt o ≡ false → cmp f r ≡ Less → cmp r k ≡ Greater
   beyond_from f r k Less e h l = absurd (let t : true ≡ false = h in cc)
-  beyond_from f r k Equal e h l = greater_from_less k r (sym (total.congr f k r e) ∙ l)
-  beyond_from f r k Greater e h l = greater_from_less k r (total.trans k f r (less_from_greater f k e) l)
+  beyond_from f r k Equal e h l = greater_from_less cmp total k r (sym (total.congr f k r e) ∙ l)
+  beyond_from f r k Greater e h l = greater_from_less cmp total k r (total.trans k f r (less_from_greater cmp total f k e) l)
 
 module _ {K V : Type 0} (P : K → Type 0) where
   pub AllKeys-append : (xs ys : List (K × V)) → AllKeys P xs → AllKeys P ys → AllKeys P (xs ++ ys)
@@ -64,26 +53,6 @@ filter-keys t true (x ∷ xs) a = rw a.0 (ap (λ r. x ∷ r) (filter-keys t true
 filter-keys t false (x ∷ xs) a = rw a.0 (filter-keys t false xs a.1)
 
 module _ {K V : Type 0} (cmp : K → K → Ordering) where
-  AllAfter-left : (k : K) (xs ys : List (K × V)) → AllAfter cmp k (xs ++ ys) → AllAfter cmp k xs
-  AllAfter-left k [] ys a = tt
-  AllAfter-left k (x ∷ xs) ys a = (a.0, AllAfter-left k xs ys a.1)
-
-  pub AllAfter-right : (k : K) (xs ys : List (K × V)) → AllAfter cmp k (xs ++ ys) → AllAfter cmp k ys
-  AllAfter-right k [] ys a = a
-  AllAfter-right k (x ∷ xs) ys a = AllAfter-right k xs ys a.1
-
-  AllAfter-append : (k : K) (xs ys : List (K × V)) → AllAfter cmp k xs → AllAfter cmp k ys → AllAfter cmp k (xs ++ ys)
-  AllAfter-append k [] ys a b = b
-  AllAfter-append k (x ∷ xs) ys a b = (a.0, AllAfter-append k xs ys a.1 b)
-
-  pub IsRising-left : (xs ys : List (K × V)) → IsRising cmp (xs ++ ys) → IsRising cmp xs
-  IsRising-left [] ys a = tt
-  IsRising-left (x ∷ xs) ys a = (AllAfter-left x.0 xs ys a.0, IsRising-left xs ys a.1)
-
-  pub IsRising-right : (xs ys : List (K × V)) → IsRising cmp (xs ++ ys) → IsRising cmp ys
-  IsRising-right [] ys a = a
-  IsRising-right (x ∷ xs) ys a = IsRising-right xs ys a.1
-
   first_is : (y : K × V) (ys : List (K × V)) (f : K) → first_key (y ∷ ys) ≡ Some f → y.0 ≡ f
   first_is y ys f e = let h : Some y.0 ≡ Some f = e in cc
 
@@ -92,7 +61,7 @@ module _ {K V : Type 0} (cmp : K → K → Ordering) where
   rising_across [] ys f h e = tt
   rising_across (x ∷ xs) [] f h e = absurd (let n : None ≡ Some f = e in cc)
   rising_across (x ∷ xs) (y ∷ ys) f h e =
-      let at : cmp x.0 y.0 ≡ Less = (AllAfter-right x.0 xs (y ∷ ys) h.0).0 in
+      let at : cmp x.0 y.0 ≡ Less = (AllAfter-right cmp x.0 xs (y ∷ ys) h.0).0 in
       (subst (λ (q : K). cmp x.0 q ≡ Less) (first_is y ys f e) at, rising_across xs (y ∷ ys) f h.1 e)
 
   module _ (total : IsTotalOrder cmp) where

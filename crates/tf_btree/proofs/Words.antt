@@ -26,10 +26,10 @@ pub use Rattle.std.specs.declared.ops.Bound.TheVariants.{Included, Excluded, Unb
 pub use Rattle.tf_btree.specs.BackCursor.{rows_left_back}
 pub use Rattle.tf_btree.specs.Cursor.{IsKeyOf, rows_at}
 pub use Rattle.tf_btree.specs.Inserted.{IsBeside, IsParted, IsFilledWith, fills_behind, IsSplitOf, rows_behind}
-pub use Rattle.tf_btree.specs.Node.{first_key, height_over, parts_of, subtree_of, IsCounted, IsNode, HasRoom, unbox, unboxed, empty_node, single_rows, AllChildren, height_of, IsChild}
+pub use Rattle.tf_btree.specs.Node.{height_over, parts_of, subtree_of, IsCounted, IsNode, HasRoom, unbox, unboxed, empty_node, single_rows, AllChildren, height_of, IsChild}
+pub use Rattle.tf_sorted.specs.Rows.{first_key, without_row, value_at, with_row, AllAfter, IsRising, rows_below, rows_above, rows_from}
 pub use Rattle.tf_btree.specs.Pair.{IsPairIn}
 pub use Rattle.tf_btree.specs.Place.{IsAt, IsGap, IsBelow, AllKeys, AllBefore, AllBeyond, Among}
-pub use Rattle.tf_btree.specs.Rows.{without_row, value_at, with_row, AllAfter, IsRising, rows_below, rows_above, rows_from}
 pub use Rattle.tf_btree.specs.Run.{rows_of, AllLeaves, pairs, IsRunFrom, rows_after}
 pub use Rattle.tf_btree.specs.RunBack.{is_within, rows_to, rows_before, HasBefore, IsCut, IsRunTo, IsRunBefore, IsLastWithin}
 pub use Rattle.tf_btree.specs.Shape.{capacity, Fill, AllFilled, IsFilled, one_more_at, edge_at, half_full, no_entries, Shape, childless, child, shape_of, edge_before, AreFilled, one_more}

@@ -3,7 +3,7 @@ use Rattle.std.specs.Prelude.{◌≡◌, ℕ, ◌≤◌, List, ◌++◌, length,
 use Rattle.std.specs.declared.cmp.Ordering.{Ordering}
 use denote.Bor.{Bor}
 use Rattle.tf_btree.specs.Subtree.{Subtree}
-use Rattle.tf_btree.specs.Rows.{IsRising}
+use Rattle.tf_sorted.specs.Rows.{IsRising}
 use Rattle.tf_btree.specs.Run.{pairs, rows_of, AllLeaves}
 use Rattle.tf_btree.specs.Cursor.{rows_at}
 use Rattle.tf_btree.specs.RunBack.{rows_before, HasBefore}

@@ -3,7 +3,7 @@ use Rattle.std.specs.Prelude.{◌≡◌, ℕ, ◌<◌, ◌≤◌, List, [], ◌+
 use Rattle.std.specs.declared.cmp.Ordering.{Ordering}
 use denote.Bor.{Bor}
 use Rattle.tf_btree.specs.Subtree.{Subtree, rows}
-use Rattle.tf_btree.specs.Rows.{IsRising, value_at}
+use Rattle.tf_sorted.specs.Rows.{IsRising, value_at}
 use Rattle.tf_btree.specs.Run.{pairs, rows_of, AllLeaves, rows_after}
 
 -- the rows below a lent root

@@ -4,7 +4,7 @@ use Rattle.std.specs.declared.cmp.Ordering.{Ordering}
 use Rattle.std.specs.declared.boxed.Box.{Box}
 use Rattle.tf_btree.specs.Shape.{Fill, IsFilled, capacity}
 use Rattle.tf_btree.specs.Subtree.{Subtree, rows, fill_of}
-use Rattle.tf_btree.specs.Rows.{value_at, with_row}
+use Rattle.tf_sorted.specs.Rows.{value_at, with_row}
 
 -- the node is of its old kind and height, and has entries
 pub record KeepsLevel {K V : Type 0} (old new : Subtree K V) : Type 0 where

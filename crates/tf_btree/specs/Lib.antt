@@ -1,4 +1,3 @@
-pub mod Rows
 pub mod Shape
 pub mod Subtree
 pub mod Code

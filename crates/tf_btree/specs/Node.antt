@@ -2,14 +2,10 @@
 use Rattle.std.specs.Prelude.{◌≡◌, ℕ, suc, ◌≤◌, ◌^◌, List, [], ◌∷◌, length, map, max, Option, Some, None, Bool, true, false}
 use Rattle.std.specs.declared.boxed.Box.{Box}
 use Rattle.std.proofs.Common.{arith}
+use Rattle.tf_sorted.specs.Rows.{first_key}
 use Rattle.tf_btree.specs.Shape.{IsFilled, capacity, half_full}
 use Rattle.tf_btree.specs.Subtree.{Subtree, rows, fill_of}
 use denote.Param.Weighed.{most}
-
--- the key of the first row, if there is one
-abbrev pub first_key : {K V : Type 0} → List (K × V) → Option K
-first_key [] = None
-first_key (r ∷ rs) = Some r.0
 
 -- what a box holds
 abbrev pub unbox : {X Z : Type 0} → Box X Z → X

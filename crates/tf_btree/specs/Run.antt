@@ -2,8 +2,8 @@
 use Rattle.std.specs.Prelude.{◌≡◌, ◌<◌, List, [], ◌∷◌, ◌++◌, length, map, Option, Some, None}
 use Rattle.std.specs.declared.cmp.Ordering.{Ordering}
 use Rattle.tf_btree.specs.Subtree.{Subtree, joined, rows}
-use Rattle.tf_btree.specs.Node.{first_key, single_rows}
-use Rattle.tf_btree.specs.Rows.{rows_from}
+use Rattle.tf_btree.specs.Node.{single_rows}
+use Rattle.tf_sorted.specs.Rows.{first_key, rows_from}
 
 -- each key with its value
 abbrev pub pairs : {K V : Type 0} → List K → List V → List (K × V)

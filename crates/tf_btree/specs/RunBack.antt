@@ -5,8 +5,7 @@ use Rattle.std.specs.declared.ops.Bound.{Bound}
 use Rattle.std.specs.declared.ops.Bound.TheVariants.{Included, Excluded, Unbounded}
 use Rattle.std.specs.Ordering.{is_lt, is_gt}
 use Rattle.tf_btree.specs.Subtree.{Subtree, joined}
-use Rattle.tf_btree.specs.Node.{first_key}
-use Rattle.tf_btree.specs.Rows.{rows_below, rows_upto}
+use Rattle.tf_sorted.specs.Rows.{first_key, rows_below, rows_upto}
 use Rattle.tf_btree.specs.Run.{pairs, rows_of, AllLeaves}
 
 module _ {K : Type 0} (cmp : K → K → Ordering) where

@@ -1,7 +1,7 @@
 -- What a node shows: its kind, its height, the rows below each of its entries, and how full its children are.
 use Rattle.std.specs.Prelude.{◌≡◌, ℕ, suc, ◌<◌, Bool, List, [], ◌∷◌, ◌++◌, length, slice_index_or}
 use Rattle.std.specs.declared.cmp.Ordering.{Ordering}
-use Rattle.tf_btree.specs.Rows.{IsRising}
+use Rattle.tf_sorted.specs.Rows.{IsRising}
 use Rattle.tf_btree.specs.Shape.{Fill, shape_of}
 
 -- the lists, one after another

@@ -4,7 +4,7 @@ use Rattle.std.specs.declared.boxed.Box.{Box}
 use Rattle.std.specs.declared.cmp.Ordering.{Ordering}
 use Rattle.tf_btree.specs.Shape.{IsFilled, half_full}
 use Rattle.tf_btree.specs.Subtree.{Subtree, rows, fill_of}
-use Rattle.tf_btree.specs.Rows.{IsRising}
+use Rattle.tf_sorted.specs.Rows.{IsRising}
 
 -- the rows under a root
 abbrev pub rows_under : {K V A : Type 0} → Option (Box (Subtree K V) A) → List (K × V)

@@ -2,7 +2,7 @@
 ghost use Rattle.std.specs.Prelude.{◌≡◌, ◌<◌, ◌++◌, [], length, reverse, IfNone, IfSome};
 ghost use Rattle.std.specs.Iterator.{YieldsFirstBy, item_count};
 ghost use Rattle.tf_btree.specs.Node.{unboxed};
-ghost use Rattle.tf_btree.specs.Rows.{IsRising};
+ghost use Rattle.tf_sorted.specs.Rows.{IsRising};
 ghost use Rattle.tf_btree.specs.Run.{AllLeaves, rows_of};
 ghost use Rattle.tf_btree.specs.Cursor.{rows_at};
 ghost use Rattle.tf_btree.specs.RunBack.{rows_to, rows_before, HasBefore, IsRunBefore};

@@ -2,7 +2,7 @@
 ghost use Rattle.std.specs.Prelude.{◌≡◌, ◌<◌, ◌++◌, [], length, IfNone, IfSome};
 ghost use Rattle.std.specs.Iterator.{YieldsFirstBy, item_count};
 ghost use Rattle.tf_btree.specs.Node.{unboxed};
-ghost use Rattle.tf_btree.specs.Rows.{IsRising, rows_from};
+ghost use Rattle.tf_sorted.specs.Rows.{IsRising, rows_from};
 ghost use Rattle.tf_btree.specs.Run.{AllLeaves, rows_of, rows_after};
 ghost use Rattle.tf_btree.specs.Cursor.{rows_at, IsKeyOf, IsNextRun};
 

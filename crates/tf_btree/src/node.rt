@@ -1,7 +1,8 @@
 //! A node of a tree.
 ghost use Rattle.std.specs.Prelude.{◌≡◌, ◌+◌, ◌-◌, ◌<◌, ◌≤◌, ◌==◌, [], ◌∷◌, ◌++◌, IfOk, Some, true, false, suc, length, insert, remove, take, drop, slice_index_or};
 ghost use Rattle.tf_btree.specs.Subtree.{Subtree, rows};
-ghost use Rattle.tf_btree.specs.Node.{first_key, empty_node, IsCounted};
+ghost use Rattle.tf_btree.specs.Node.{empty_node, IsCounted};
+ghost use Rattle.tf_sorted.specs.Rows.{first_key};
 
 mod edit;
 mod find;

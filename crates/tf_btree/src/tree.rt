@@ -1,7 +1,7 @@
 //! The tree.
 ghost use Rattle.std.specs.Prelude.{◌≡◌, ◌+◌, ◌-◌, ◌^◌, ◌<◌, ◌≤◌, [], length, reverse, None, IsTrue, ◌↔◌, IfOk, IfErr, OnOk, OnErr};
 ghost use Rattle.std.specs.Option.{option_copied};
-ghost use Rattle.tf_btree.specs.Rows.{IsRising, rows_from, rows_upto, value_at, with_row, without_row};
+ghost use Rattle.tf_sorted.specs.Rows.{IsRising, rows_from, rows_upto, value_at, with_row, without_row};
 
 use crate::back_cursor::BackCursor;
 use crate::cursor::Cursor;

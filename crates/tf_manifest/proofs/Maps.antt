@@ -1,5 +1,5 @@
 -- What is written at a place.
-use Rattle.std.proofs.Common.{◌≡◌, ℕ, zero, suc, List, [], ◌∷◌, ◌++◌, length, take, drop, Result, Ok, Err, OnErr, slice_set, refl, ap, arith}
+use Rattle.std.proofs.Common.{◌≡◌, ℕ, zero, suc, List, [], ◌∷◌, ◌++◌, length, take, drop, Result, Ok, Err, OnErr, OnOk, slice_set, refl, ap, arith}
 use Rattle.std.specs.Prelude.{slice_index_or}
 use Rattle.std.specs.List.{refill}
 
@@ -22,6 +22,10 @@ pub set_back : {X : Type 0} (xs : List X) (i : ℕ) (x d : X) → x ≡ slice_in
 set_back [] i x d e = refl
 set_back (y ∷ xs) zero x d e = ap (λ z. z ∷ xs) e
 set_back (y ∷ xs) (suc i) x d e = ap (λ zs. y ∷ zs) (set_back xs i x d e)
+
+pub on_ok : {X E : Type 0} (r : Result X E) (P Q : Type 0) → (P → Q) → OnOk r P → OnOk r Q
+on_ok (Ok x) P Q f h = f h
+on_ok (Err e) P Q f h = tt
 
 pub on_err : {X E : Type 0} (r : Result X E) (P Q : Type 0) → (P → Q) → OnErr r P → OnErr r Q
 on_err (Ok x) P Q f h = tt

@@ -5,7 +5,7 @@ use Rattle.std.specs.Option.{option_map}
 use Rattle.std.specs.declared.cmp.Ordering.TheVariants.{Less, Equal}
 use Rattle.std.proofs.lemmas.Cmp.{tied_itself}
 use Rattle.std.proofs.lemmas.Option.{none-some, same_Some}
-use Rattle.tf_btree.specs.Rows.{AllAfter, IsRising, value_at}
+use Rattle.tf_sorted.specs.Rows.{AllAfter, IsRising, value_at}
 use Rattle.tf_table.specs.declared.key.Key.{Key}
 use Rattle.tf_table.specs.Key.{key_cmp}
 use Rattle.tf_manifest.proofs.Entries.{total, exact, same_key}

@@ -1,7 +1,7 @@
 -- What it is that rows show a journal, and the journal that they show.
 use Rattle.std.specs.Prelude.{◌≡◌, ◌==◌, nat_lt, List, [], ◌∷◌, ◌++◌, fold, Option, Some, None, if◌then◌else◌}
 use Rattle.std.specs.List.{filter_map}
-use Rattle.tf_btree.specs.Rows.{IsRising, value_at}
+use Rattle.tf_sorted.specs.Rows.{IsRising, value_at}
 use Rattle.tf_journal.specs.declared.entry.Entry.{Entry}
 use Rattle.tf_journal.specs.declared.entry.Entry.TheVariants as entry
 use Rattle.tf_journal.specs.Journal.{timestamp_of}

@@ -5,7 +5,7 @@ use Rattle.std.specs.List.{filter_map}
 use Rattle.std.specs.Option.{option_and_then, option_map}
 use Rattle.std.specs.Ordering.{is_eq}
 use Rattle.std.proofs.lemmas.List.{append-nil}
-use Rattle.tf_btree.specs.Rows.{value_at}
+use Rattle.tf_sorted.specs.Rows.{value_at}
 use Rattle.tf_records.specs.declared.account.Account.{Account}
 use Rattle.tf_records.specs.declared.transfer.Transfer.{Transfer}
 use Rattle.tf_journal.specs.declared.entry.Entry.{Entry}

@@ -2,7 +2,7 @@
 use Rattle.std.proofs.Common.{◌≡◌, ℕ, true, false, sym, ◌∙◌, ap}
 use Rattle.std.specs.Prelude.{◌==◌, List, is_some}
 use Rattle.std.specs.Option.{option_map}
-use Rattle.tf_btree.specs.Rows.{value_at}
+use Rattle.tf_sorted.specs.Rows.{value_at}
 use Rattle.tf_records.specs.declared.account.Account.{Account}
 use Rattle.tf_records.specs.declared.transfer.Transfer.{Transfer}
 use Rattle.tf_journal.specs.declared.entry.Entry.{Entry}

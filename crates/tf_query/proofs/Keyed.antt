@@ -7,7 +7,7 @@ use Rattle.std.specs.declared.cmp.Ordering.{Ordering}
 use Rattle.std.specs.declared.cmp.Ordering.TheVariants.{Less, Equal, Greater}
 use Rattle.std.proofs.lemmas.Bool.{eqb-true, le-ltb}
 use Rattle.std.proofs.Common.{arith}
-use Rattle.tf_btree.specs.Rows.{value_at}
+use Rattle.tf_sorted.specs.Rows.{value_at}
 use Rattle.tf_table.specs.Key.{key_cmp}
 use Rattle.tf_manifest.specs.declared.kinds.Stored.{Stored}
 use Rattle.tf_manifest.specs.declared.value.Value.{Value}

@@ -20,3 +20,4 @@ pub mod Ahead
 pub mod Summed
 pub mod Walking
 pub mod Versions
+pub mod Crossing

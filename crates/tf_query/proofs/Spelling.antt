@@ -2,7 +2,7 @@
 use Rattle.std.proofs.Common.{◌≡◌, Bool, true, false, cond, List, [], ◌∷◌, find, map, Some, refl, ◌∙◌, ap}
 use Rattle.std.specs.Option.{option_map}
 use Rattle.std.specs.Ordering.{is_eq}
-use Rattle.tf_btree.specs.Rows.{AllAfter, IsRising, value_at}
+use Rattle.tf_sorted.specs.Rows.{AllAfter, IsRising, value_at}
 use Rattle.tf_table.specs.declared.key.Key.{Key}
 use Rattle.tf_table.specs.Content.{content_of}
 use Rattle.tf_table.specs.Key.{key_cmp}

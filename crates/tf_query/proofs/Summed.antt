@@ -5,7 +5,7 @@ use Rattle.std.specs.List.{flat_map}
 use Rattle.std.specs.Option.{option_map, option_map_or}
 use Rattle.std.specs.Ordering.{is_eq}
 use Rattle.std.proofs.lemmas.Bool.{eqb-true}
-use Rattle.tf_btree.specs.Rows.{value_at}
+use Rattle.tf_sorted.specs.Rows.{value_at}
 use Rattle.tf_records.specs.declared.account_filter.AccountFilter.{AccountFilter}
 use Rattle.tf_records.specs.declared.sums.Sums.{Sums}
 use Rattle.tf_records.specs.declared.transfer.Transfer.{Transfer}

@@ -1,7 +1,7 @@
 -- Rows of a table that are still to come, and what they say of their keys.
 use Rattle.std.proofs.Common.{◌≡◌, subst, refl, arith, ℕ, Bool, true, false, cond, List, [], ◌∷◌, ◌++◌, filter, length, take, Option, Some, slice_get, inl, inr}
 use Rattle.std.specs.List.{AllByRecursion, zip}
-use Rattle.tf_btree.specs.Rows.{IsRising}
+use Rattle.tf_sorted.specs.Rows.{IsRising}
 use Rattle.tf_table.specs.declared.key.Key.{Key}
 use Rattle.tf_table.specs.Content.{entry_at, entry_of}
 use Rattle.tf_table.specs.Key.{key_cmp}

@@ -1,2 +1,1 @@
 mod AllAnswers
-mod Crossing

@@ -8,8 +8,9 @@ use std::alloc::Allocator;
 use std::sync::Wait;
 use std::test::Fail;
 use tf_btree::Tree;
+use tf_mutable::{MutableTable, seal};
 use tf_registry::{Body, Held, Merged, Naming, Pushes, Registry, RowUninstalled, TableRef, Tables};
-use tf_table::{Key, MutableTable, seal};
+use tf_table::Key;
 
 /// What became of an install.
 #[derive(Clone, Copy, Debug, PartialEq, Eq)]

@@ -8,9 +8,10 @@ use std::alloc::Allocator;
 use std::sync::Wait;
 use tf_btree::Tree;
 use tf_manifest::{KindRows, RowValue};
+use tf_mutable::{MutableTable, seal};
 use tf_records::Refusal;
 use tf_registry::{Body, Held, Naming, Pushes, TableRef, Tables};
-use tf_table::{Key, MutableTable, seal};
+use tf_table::Key;
 
 /// A key with this value, of a record with timestamp 1.
 pub fn key(value: u64) -> Key {

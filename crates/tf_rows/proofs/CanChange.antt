@@ -6,7 +6,7 @@ use Rattle.std.proofs.lemmas.Bool.{eq-eqb, eqb-true}
 use Rattle.tf_table.specs.declared.key.Key.{Key}
 use Rattle.tf_table.specs.Content.{entry_at}
 use Rattle.tf_table.specs.Key.{key_cmp}
-use Rattle.tf_btree.specs.Rows.{with_row}
+use Rattle.tf_sorted.specs.Rows.{with_row}
 use Rattle.tf_manifest.specs.declared.row.Row.{Row}
 use Rattle.tf_manifest.specs.declared.value.Value.{Value}
 use Rattle.tf_manifest.specs.RowNames.{rows_in_order}

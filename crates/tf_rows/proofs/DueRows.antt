@@ -9,8 +9,7 @@ use Rattle.std.proofs.lemmas.Bool.{and_from, and_parts, cases_lt, cond-false, co
 use Rattle.std.proofs.lemmas.List.{length-map}
 use Rattle.std.proofs.lemmas.List.Elements.{All-from_recursion}
 use Rattle.std.proofs.lemmas.Option.{none-some, same_Some}
-use Rattle.tf_btree.specs.Node.{first_key}
-use Rattle.tf_btree.specs.Rows.{AllAfter, IsRising, rows_from, value_at}
+use Rattle.tf_sorted.specs.Rows.{first_key, AllAfter, IsRising, rows_from, value_at}
 use Rattle.tf_records.specs.declared.transfer.Transfer.{Transfer}
 use Rattle.tf_journal.specs.declared.entry.Entry.{Entry}
 use Rattle.tf_journal.specs.declared.entry.Entry.TheVariants as entry

@@ -3,7 +3,7 @@ use Rattle.std.proofs.Common.{◌≡◌, ◌≢◌, ◌⊎◌, ℕ, zero, suc, �
 use Rattle.std.specs.Prelude.{slice_index_or, IsSome, ⊤}
 use Rattle.std.proofs.lemmas.Bool.{false≢true}
 use Rattle.std.proofs.lemmas.List.{length-append}
-use Rattle.tf_btree.specs.Rows.{with_row}
+use Rattle.tf_sorted.specs.Rows.{with_row}
 use Rattle.tf_journal.specs.declared.status.Status.{Status}
 use Rattle.tf_records.specs.declared.account.Account.{Account}
 use Rattle.tf_records.specs.declared.refusal.Refusal.{Refusal}
@@ -12,7 +12,7 @@ use Rattle.tf_records.specs.declared.transfer.Transfer.{Transfer}
 use Rattle.tf_table.specs.declared.key.Key.{Key}
 use Rattle.tf_table.specs.Content.{entry_at}
 use Rattle.tf_table.specs.Key.{key_cmp}
-use Rattle.tf_table.specs.Mutable.{given_back}
+use Rattle.tf_mutable.specs.Mutable.{given_back}
 use Rattle.tf_manifest.specs.declared.kind.Kind.{Kind}
 use Rattle.tf_manifest.specs.declared.kind.Kind.TheVariants as kind
 use Rattle.tf_manifest.specs.declared.kind.StampRow.{StampRow}

@@ -9,7 +9,7 @@ use Rattle.std.proofs.lemmas.Bool.{eq-eqb, ne_eqb}
 use Rattle.std.proofs.lemmas.Cmp.{nat_cmp_total, tied_itself}
 use Rattle.std.proofs.lemmas.Map.Lookups.{exact_unsigned}
 use Rattle.std.proofs.lemmas.Option.{none-some, same_Some}
-use Rattle.tf_btree.specs.Rows.{rows_above, rows_below, value_at, with_row, without_row}
+use Rattle.tf_sorted.specs.Rows.{rows_above, rows_below, value_at, with_row, without_row}
 use Rattle.tf_table.specs.Content.{first_some}
 use Rattle.tf_table.proofs.Determined.{bool_cases, first_some-none, value_at-filter, value_at-with_row}
 use Rattle.tf_table.proofs.Rising.{equal_from, value_at-append}

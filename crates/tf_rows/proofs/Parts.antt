@@ -3,14 +3,14 @@ use Rattle.std.proofs.Common.{◌≡◌, List, [], ◌∷◌, ◌++◌, map, fil
 use Rattle.std.specs.Ordering.{is_eq, is_lt, is_gt}
 use Rattle.std.specs.Option.{IsSome, is_some, option_map, option_flatten}
 use Rattle.std.proofs.lemmas.List.{map-append}
-use Rattle.tf_btree.specs.Rows.{AllAfter, IsRising, rows_above, rows_below, with_row, without_row}
+use Rattle.tf_sorted.specs.Rows.{AllAfter, IsRising, rows_above, rows_below, with_row, without_row}
 use Rattle.tf_table.specs.declared.key.Key.{Key}
 use Rattle.tf_table.specs.Content.{entry_at, entry_of, first_some}
 use Rattle.tf_table.specs.Key.{key_cmp}
-use Rattle.tf_table.specs.Mutable.{given_back}
+use Rattle.tf_mutable.specs.Mutable.{given_back}
 use Rattle.tf_manifest.specs.declared.value.Value.{Value}
 use Rattle.tf_manifest.proofs.Entries.{with_row-here}
-use Rattle.tf_table.proofs.Logged.{given_back-is}
+use Rattle.tf_mutable.proofs.Logged.{given_back-is}
 use Rattle.tf_rows.specs.Parts.{seen_row, seen_rows}
 
 module _ {V : Type 0} (seen : V → Value) where

@@ -7,8 +7,7 @@ use Rattle.std.specs.declared.cmp.Ordering.TheVariants.{Less, Equal, Greater}
 use Rattle.std.proofs.lemmas.Bool.{cond-true, not-true}
 use Rattle.std.proofs.lemmas.Bool.Decides.{nat_tests}
 use Rattle.std.proofs.lemmas.Cmp.{tied_itself}
-use Rattle.tf_btree.specs.Node.{first_key}
-use Rattle.tf_btree.specs.Rows.{AllAfter, IsRising, rows_from, value_at}
+use Rattle.tf_sorted.specs.Rows.{first_key, AllAfter, IsRising, rows_from, value_at}
 use Rattle.tf_table.specs.declared.key.Key.{Key}
 use Rattle.tf_table.specs.First.{IsFirstFrom}
 use Rattle.tf_table.specs.Key.{key_cmp}

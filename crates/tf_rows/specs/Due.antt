@@ -1,8 +1,7 @@
 -- The transfers that are due, read off the row of expiries.
 use Rattle.std.specs.Prelude.{ℕ, nat_le, List, map, Option, Bool}
 use Rattle.std.specs.List.{filter as keep}
-use Rattle.tf_btree.specs.Node.{first_key}
-use Rattle.tf_btree.specs.Rows.{rows_from}
+use Rattle.tf_sorted.specs.Rows.{first_key, rows_from}
 use Rattle.tf_records.specs.declared.transfer.Transfer.{Transfer}
 use Rattle.tf_table.specs.declared.key.Key.{Key}
 use Rattle.tf_table.specs.Key.{key_cmp}

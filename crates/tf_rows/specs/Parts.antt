@@ -1,11 +1,11 @@
 -- Rows as lists of one kind of value: what each has in its mutable table and in its sealed ones, and changes of them.
 use Rattle.std.specs.Prelude.{◌≡◌, ◌≢◌, ℕ, List, [], ◌∷◌, map, Option}
 use Rattle.std.specs.Option.{IsSome, option_map}
-use Rattle.tf_btree.specs.Rows.{with_row}
+use Rattle.tf_sorted.specs.Rows.{with_row}
 use Rattle.tf_table.specs.declared.key.Key.{Key}
 use Rattle.tf_table.specs.Key.{key_cmp}
 use Rattle.tf_table.specs.Content.{entry_at}
-use Rattle.tf_table.specs.Mutable.{given_back}
+use Rattle.tf_mutable.specs.Mutable.{given_back}
 use Rattle.tf_manifest.specs.declared.row.Row.{Row}
 use Rattle.tf_manifest.specs.declared.row.Row.TheVariants as row
 use Rattle.tf_manifest.specs.declared.value.Value.{Value}

@@ -7,7 +7,7 @@ use Rattle.tf_journal.specs.declared.entry.Entry.{Entry}
 use Rattle.tf_journal.specs.declared.entry.Entry.TheVariants as entry
 use Rattle.tf_journal.specs.declared.side.Side.{Side}
 use Rattle.tf_journal.specs.declared.side.Side.TheVariants.{Debit, Credit}
-use Rattle.tf_btree.specs.Rows.{value_at}
+use Rattle.tf_sorted.specs.Rows.{value_at}
 use Rattle.tf_manifest.specs.declared.value.State.{State}
 use Rattle.tf_rows.specs.declared.former.Former.{Former}
 use Rattle.tf_rows.specs.declared.former.Formers.{Formers}

@@ -20,8 +20,9 @@ use std::marker::Model;
 use tf_btree::Tree;
 use tf_journal::{Entry, is_pending};
 use tf_manifest::Row;
+use tf_mutable::MutableTable;
 use tf_records::{Refusal, Transfer};
-use tf_table::{Key, MutableTable};
+use tf_table::Key;
 
 /// The keys of expiry, in order, held beside the rows: so the pending transfer that expires next is found by a search of one
 /// tree, however many were posted or voided before it.

@@ -1,19 +1,20 @@
 //! Entries of one mutable table, written and read by what any row may have.
 ghost use Rattle.std.specs.Prelude.{◌≡◌, IsSome, IfSome, IfOk, IfErr, OnOk, OnErr};
 ghost use Rattle.std.specs.Option.{option_copied, option_map};
-ghost use Rattle.tf_btree.specs.Rows.{with_row};
+ghost use Rattle.tf_sorted.specs.Rows.{with_row};
 ghost use Rattle.tf_table.specs.Content.{entry_at};
 ghost use Rattle.tf_table.specs.First.{IsFirstAbove};
 ghost use Rattle.tf_table.specs.Key.{key_cmp};
-ghost use Rattle.tf_table.specs.Mutable.{given_back};
+ghost use Rattle.tf_mutable.specs.Mutable.{given_back};
 ghost use Rattle.tf_rows.specs.Parts.{seen_rows};
 ghost use Rattle.tf_registry.specs.Row.{is_nil};
 
 use crate::held::Held;
 use std::alloc::Allocator;
 use tf_manifest::Value;
+use tf_mutable::MutableTable;
 use tf_records::Refusal;
-use tf_table::{Key, MutableTable};
+use tf_table::Key;
 
 /// What a row's mutable table had at a key: an entry, which is a value or a tombstone, or none.
 pub type Before = Option<Option<Value>>;

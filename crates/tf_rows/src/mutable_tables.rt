@@ -1,6 +1,6 @@
 //! The mutable tables of the 21 rows.
 ghost use Rattle.std.specs.Prelude.{◌≡◌, ◌<◌, ℕ, [], None, length, slice_index_or, slice_set, IsSome, IfSome, IfNone, IfOk, IfErr, OnOk, OnErr};
-ghost use Rattle.tf_btree.specs.Rows.{with_row};
+ghost use Rattle.tf_sorted.specs.Rows.{with_row};
 ghost use Rattle.tf_rows.specs.Fresh.{entries_by};
 ghost use Rattle.tf_rows.specs.Held.{unit_held};
 ghost use Rattle.tf_rows.specs.Parts.{seen_rows};
@@ -8,7 +8,7 @@ ghost use Rattle.tf_manifest.specs.Kinds.{unit_index};
 ghost use Rattle.tf_manifest.specs.declared.value.Value.{Value};
 ghost use Rattle.tf_table.specs.Content.{entry_at};
 ghost use Rattle.tf_table.specs.Key.{key_cmp};
-ghost use Rattle.tf_table.specs.Mutable.{given_back};
+ghost use Rattle.tf_mutable.specs.Mutable.{given_back};
 
 use crate::entry::{Before, entry_in, has_none, put_entry, take_back};
 use crate::{EmptyRows, MutableRows, SealRows, SealedRow};
@@ -17,8 +17,9 @@ use std::marker::Model;
 use tf_btree::Tree;
 use tf_journal::Status;
 use tf_manifest::{IdStamp, Kind, Row, StampRow, State, Stored, UnitRow, Value};
+use tf_mutable::{Log, MutableTable};
 use tf_records::{Account, Refusal, Sums, Transfer};
-use tf_table::{Key, Log, MutableTable, Sealed};
+use tf_table::{Key, Sealed};
 
 /// How many indexes there are: the rows that store nothing beside their keys, but for expiry.
 const INDEXES: usize = 12;

@@ -7,7 +7,7 @@ use Rattle.std.specs.declared.cmp.Ordering.TheVariants.{Less, Equal, Greater}
 use Rattle.std.proofs.lemmas.Bool.{eqb-true, eq-eqb, le-ltb, cond-true}
 use Rattle.std.proofs.lemmas.List.Elements.{recursion_from_All}
 use Rattle.std.proofs.lemmas.Cmp.{tied_itself, nat_cmp_total}
-use Rattle.tf_btree.specs.Rows.{rows_from, rows_upto}
+use Rattle.tf_sorted.specs.Rows.{rows_from, rows_upto}
 use Rattle.tf_table.specs.declared.key.Key.{Key}
 use Rattle.tf_table.specs.declared.span.Span.{Span}
 use Rattle.tf_table.specs.Key.{key_cmp}

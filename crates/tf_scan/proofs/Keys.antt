@@ -11,8 +11,8 @@ use Rattle.tf_table.specs.declared.key.Key.{Key}
 use Rattle.tf_table.specs.declared.column.Column.{Column}
 use Rattle.tf_table.specs.declared.column.Column.TheVariants.{Same}
 use Rattle.tf_table.specs.Column.{column_of}
-use Rattle.tf_btree.specs.Rows.{AllAfter, IsRising}
-use Rattle.tf_btree.proofs.Order.{greater_from_less}
+use Rattle.tf_sorted.specs.Rows.{AllAfter, IsRising}
+use Rattle.tf_sorted.proofs.Order.{greater_from_less}
 use Rattle.tf_table.specs.Key.{key_cmp}
 use Rattle.tf_table.specs.Content.{values_of}
 use Rattle.tf_table.proofs.Keys.{keys_total}

@@ -11,7 +11,7 @@ use Rattle.std.proofs.lemmas.Bool.{eqb-true, eq-eqb, lt-ltb, ltb-true, ltb-false
 use Rattle.std.proofs.lemmas.List.{map-append}
 use Rattle.std.proofs.lemmas.Map.Lookups.{exact_unsigned}
 use denote.Ref.{Bor}
-use Rattle.tf_btree.specs.Rows.{AllAfter, IsRising}
+use Rattle.tf_sorted.specs.Rows.{AllAfter, IsRising}
 use Rattle.tf_table.specs.declared.key.Key.{Key}
 use Rattle.tf_table.specs.declared.span.Span.{Span}
 use Rattle.tf_table.specs.Key.{key_cmp}

@@ -1,7 +1,7 @@
 -- What is left of each table in a prefix, and what holds of it.
 use Rattle.std.specs.Prelude.{◌≡◌, ℕ, suc, ◌-◌, ◌^◌, ◌<◌, ◌≤◌, Bool, true, false, not, ◌&&◌, if◌then◌else◌, nat_eq, nat_lt, List, [], ◌∷◌, ◌++◌, length, map, slice_get, Option, Some, None}
 use Rattle.std.specs.List.{AllByRecursion}
-use Rattle.tf_btree.specs.Rows.{IsRising, rows_from, rows_upto}
+use Rattle.tf_sorted.specs.Rows.{IsRising, rows_from, rows_upto}
 use Rattle.tf_table.specs.declared.key.Key.{Key}
 use Rattle.tf_table.specs.declared.span.Span.{Span}
 use Rattle.tf_table.specs.Key.{key_cmp}

@@ -1,7 +1,7 @@
 //! What is left of one table in a prefix.
 ghost use Rattle.std.specs.Prelude.{◌≡◌, ◌≤◌, ℕ, true, false, length, None, IsTrue};
 ghost use Rattle.std.specs.Option.{option_copied, option_map};
-ghost use Rattle.tf_btree.specs.Rows.{rows_from, rows_upto};
+ghost use Rattle.tf_sorted.specs.Rows.{rows_from, rows_upto};
 ghost use Rattle.tf_table.specs.Content.{entry_at};
 ghost use Rattle.tf_table.specs.Key.{key_cmp};
 ghost use Rattle.tf_manifest.specs.Rows.{key_of};

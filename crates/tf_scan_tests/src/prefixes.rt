@@ -11,10 +11,11 @@ use std::marker::Brand;
 use std::process::Abort;
 use std::sync::Wait;
 use std::test::Fail;
+use tf_mutable::{Log, MutableTable};
 use tf_records::Refusal;
 use tf_registry::{Body, Held, Naming, Registry, Tables};
 use tf_scan::{Direction, Leaf, Prefix, Scan, expected_places};
-use tf_table::{Key, Log, MutableTable, Sealed};
+use tf_table::{Key, Sealed};
 
 /// The tables of the row that has them all.
 const TABLES: u64 = 16;

@@ -31,7 +31,7 @@ use Rattle.tf_store.specs.contracts.store.Store as Store
 use Rattle.tf_store.specs.contracts.store.Store.TheInside as StoreIn
 use Rattle.tf_store.specs.declared.copies.StoredCopies as StoredCopies
 use Rattle.tf_store.specs.declared.store.StoredForest as StoredForest
-use Rattle.tf_store.proofs.Versions.{manifest-send, manifest-sync}
+use Rattle.tf_query.proofs.Crossing.{manifest-send, manifest-sync}
 use denote.RattleType.{RattleType}
 use denote.Struct.Declared.{shape}
 use denote.Struct.Struct.{Struct}

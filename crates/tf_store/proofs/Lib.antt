@@ -5,4 +5,3 @@ pub mod Published
 pub mod Beginnings
 pub mod Crossing
 pub mod OnHeap
-pub mod Versions

@@ -8,8 +8,8 @@ use Rattle.tf_registry.specs.declared.naming.Naming as Naming
 use Rattle.tf_manifest.specs.contracts.manifest.Manifest as Manifest
 use Rattle.tf_query.specs.contracts.version.Version as Version
 use Rattle.tf_query.specs.contracts.version.Version.TheInside as VersionIn
-use Rattle.tf_table.specs.contracts.log.Log as Log
-use Rattle.tf_store.proofs.Versions.{manifest-send, manifest-sync}
+use Rattle.tf_mutable.specs.contracts.log.Log as Log
+use Rattle.tf_query.proofs.Crossing.{manifest-send, manifest-sync}
 use denote.RattleType.{RattleType}
 use denote.Param.Send.{IsSend, IsSync, Frees, sendable, view_send, view_sync}
 

@@ -2,8 +2,8 @@
 use Rattle.std.proofs.Common.{◌≡◌, ℕ, zero, suc, ◌-◌, ◌≤◌, List, [], ◌∷◌, length, take, drop, refl, sym, ◌∙◌, ap, subst, arith}
 use Rattle.std.specs.List.{zip}
 use Rattle.std.proofs.lemmas.List.{length-take-le, length-drop, take-append-drop}
-use Rattle.tf_btree.specs.Rows.{IsRising}
-use Rattle.tf_btree.proofs.Order.{IsRising-left, IsRising-right}
+use Rattle.tf_sorted.specs.Rows.{IsRising}
+use Rattle.tf_sorted.proofs.Order.{IsRising-left, IsRising-right}
 use Rattle.tf_table.specs.Key.{key_cmp}
 use Rattle.tf_table.specs.declared.key.Key.{Key}
 use Rattle.tf_table.specs.declared.entries.Entries.{Entries}

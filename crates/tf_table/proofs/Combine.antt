@@ -6,7 +6,7 @@ use Rattle.std.specs.declared.cmp.Ordering.{Ordering}
 use Rattle.std.proofs.lemmas.Cmp.{tied_itself}
 use Rattle.std.proofs.lemmas.List.{append-nil, length_push}
 use Rattle.std.proofs.lemmas.Map.Lookups.{CmpEqualImpliesEq}
-use Rattle.tf_btree.specs.Rows.{AllAfter, IsRising, value_at}
+use Rattle.tf_sorted.specs.Rows.{AllAfter, IsRising, value_at}
 use Rattle.tf_table.specs.Content.{first_some, first_at, kept, kept_row}
 use Rattle.tf_table.specs.Merge.{EachList, least_at, passed}
 use Rattle.tf_table.proofs.Rising.{AllBefore, IsRising-push, equal_from, value_at-there, value_at-here, value_at-before, value_at-append}

@@ -10,7 +10,7 @@ use Rattle.std.proofs.lemmas.Bool.{cond-true, cond-false}
 use Rattle.std.proofs.lemmas.Cmp.{tied_itself}
 use Rattle.std.proofs.lemmas.Map.Lookups.{CmpEqualImpliesEq}
 use Rattle.std.proofs.lemmas.Option.{same_Some, none-some}
-use Rattle.tf_btree.specs.Rows.{AllAfter, IsRising, rows_below, rows_above, with_row, value_at}
+use Rattle.tf_sorted.specs.Rows.{AllAfter, IsRising, rows_below, rows_above, with_row, value_at}
 use Rattle.tf_table.specs.Content.{first_some, first_at, overlaid, combined, values_of, rows_with, value_only}
 use Rattle.tf_table.proofs.Rising.{AllBefore, AllAfter-before, equal_from, less_from, greater_from, less_back, greater_back, value_at-here, value_at-there, value_at-after, value_at-append, is_lt-not}
 

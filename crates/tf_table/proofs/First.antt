@@ -11,22 +11,19 @@ use Rattle.std.proofs.lemmas.Bool.{false≢true, cond-true, cond-false}
 use Rattle.std.proofs.lemmas.Cmp.{tied_itself}
 use Rattle.std.proofs.lemmas.Option.{slice_get_past, slice_get_read}
 use denote.Ref.{Bor}
-use Rattle.tf_btree.specs.Node.{first_key}
-use Rattle.tf_btree.specs.Rows.{AllAfter, IsRising, rows_from, rows_above, value_at}
+use Rattle.tf_sorted.specs.Rows.{first_key, AllAfter, IsRising, rows_from, rows_above, value_at}
 use Rattle.tf_table.specs.declared.key.Key.{Key}
 use Rattle.tf_table.specs.declared.entries.Entries.{Entries}
 use Rattle.tf_table.specs.Key.{key_cmp}
 use Rattle.tf_table.specs.Content.{first_some, entry_at, entry_of}
 use Rattle.tf_table.specs.Entries.{entries_of}
 use Rattle.tf_table.specs.First.{IsFirst, IsFirstIfAny, IsFirstAbove, lesser_key}
-use Rattle.tf_table.specs.Mutable.{in_order}
 use Rattle.tf_table.specs.Rows.{rows_of, IsPaired}
 use Rattle.tf_table.proofs.Determined.{first_some-none, ordering_cases}
 use Rattle.tf_table.proofs.Keys.{keys_total, exact_keys}
 use Rattle.tf_table.proofs.LaidOut.{key_there, length-rows_of}
-use Rattle.tf_table.proofs.Logged.{value_at-in_order}
 use Rattle.tf_table.proofs.Rising.{is_eq-not, equal_from, less_from, greater_from, not_less_from, not_below_more, not_equal_more, greater_back, less_back, rows_from-at, rows_from-below, value_at-here, value_at-there, value_at-after, value_at-append}
-use Rattle.tf_table.proofs.Sorting.{searchable}
+use Rattle.tf_table.proofs.Searching.{searchable}
 
 pub there_not_none : {X : Type 0} (o : Option X) → IsSome o → o ≡ None → ⊥
 there_not_none o there none = false≢true (sym (ap is_some none) ∙ there)
@@ -260,12 +257,6 @@ module _ {E : Type 0} where
       (λ q d n. not_greater (key_cmp (get_or rows q d).0 below) (point.0 q d (omega arith) (omega arith)))
       (λ d l. greater (key_cmp (get_or rows p d).0 below) (point.1 p d (omega arith) l))
       e
-
-  -- of rows in any order it is what it is of them in key order
-  pub first_in_order : (below : Key) (rows now : List (Key × E)) (found : Option Key) → in_order rows ≡ now → IsFirstAbove below (λ key. value_at key_cmp key rows) found → IsFirstAbove below (λ key. value_at key_cmp key now) found
-  first_in_order below rows now found view h =
-      first_same (λ key. key_cmp below key ≡ Less) (λ key. value_at key_cmp key rows) (λ key. value_at key_cmp key now) found
-      (λ key above. sym (ap (value_at key_cmp key) view) ∙ value_at-in_order key_cmp keys_total exact_keys key rows) h
 
   rows_above-after : (below k : Key) (rows : List (Key × E)) → is_lt (key_cmp k below) ≡ false → AllAfter key_cmp k rows → rows_above key_cmp below rows ≡ rows
   rows_above-after below k [] n a = refl

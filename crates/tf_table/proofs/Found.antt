@@ -3,7 +3,7 @@ use Rattle.std.proofs.Common.{◌≡◌, ℕ, ◌+◌, ◌-◌, ◌<◌, ◌≤�
 use Rattle.std.specs.List.{All, slice_get, zip}
 use Rattle.std.proofs.Math.Dec.{ltb}
 use Rattle.std.specs.Ordering.{is_lt, is_eq}
-use Rattle.tf_btree.specs.Rows.{value_at}
+use Rattle.tf_sorted.specs.Rows.{value_at}
 use Rattle.std.proofs.lemmas.Bool.{false≢true, le-ltb}
 use Rattle.std.proofs.lemmas.List.{get_or_default}
 use Rattle.std.proofs.lemmas.Option.{slice_get-get_or}

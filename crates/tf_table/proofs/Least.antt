@@ -8,7 +8,7 @@ use Rattle.std.specs.declared.cmp.Ordering.TheVariants.{Less, Equal, Greater}
 use Rattle.std.proofs.lemmas.Cmp.{tied_itself, alike_right}
 use Rattle.std.proofs.lemmas.List.{drop-drop}
 use Rattle.std.proofs.lemmas.Option.{same_Some, none-some}
-use Rattle.tf_btree.specs.Rows.{AllAfter, IsRising, value_at}
+use Rattle.tf_sorted.specs.Rows.{AllAfter, IsRising, value_at}
 use Rattle.tf_table.specs.Content.{first_some, first_at}
 use Rattle.tf_table.specs.Merge.{EachList, lesser, least_at, has_key, passed}
 use Rattle.tf_table.proofs.Rising.{AllAfter-before, is_lt-not, less_from, equal_from, not_less_from, not_equal_from, greater_back, less_back, value_at-here, value_at-there, value_at-after}

@@ -8,11 +8,10 @@ pub mod Found
 pub mod Keys
 pub mod LaidOut
 pub mod Least
-pub mod Logged
 pub mod Merged
 pub mod Places
 pub mod Rising
-pub mod Sorting
+pub mod Searching
 pub mod Spans
 pub mod Stored
 pub mod Times

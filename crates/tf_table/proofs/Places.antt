@@ -6,7 +6,7 @@ use Rattle.std.specs.declared.cmp.Ordering.{Ordering}
 use Rattle.std.specs.declared.cmp.Ordering.TheVariants.{Less}
 use Rattle.std.proofs.lemmas.List.{drop_more, drop_all, take_all}
 use Rattle.std.proofs.lemmas.Bool.{cond-true, cond-false}
-use Rattle.tf_btree.specs.Rows.{AllAfter, IsRising, rows_from, rows_upto, value_at}
+use Rattle.tf_sorted.specs.Rows.{AllAfter, IsRising, rows_from, rows_upto, value_at}
 use Rattle.tf_table.proofs.Rising.{AllBefore, IsRising-drop, is_gt-not, is_lt-not, less_from, greater_from, greater_back, less_back, rows_from-at, rows_from-below, value_at-here, value_at-there, value_at-after, value_at-before, is_eq-not}
 
 module _ {K E : Type 0} (cmp : K → K → Ordering) (o : IsTotalOrder cmp) where

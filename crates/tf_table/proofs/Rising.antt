@@ -6,7 +6,7 @@ use Rattle.std.specs.Ordering.{is_lt, is_eq, is_gt, ordering_reverse}
 use Rattle.std.specs.declared.cmp.Ordering.{Ordering}
 use Rattle.std.specs.declared.cmp.Ordering.TheVariants.{Less, Equal, Greater}
 use Rattle.std.proofs.lemmas.Bool.{false≢true, cond-true, cond-false}
-use Rattle.tf_btree.specs.Rows.{AllAfter, IsRising, rows_from, value_at}
+use Rattle.tf_sorted.specs.Rows.{AllAfter, IsRising, rows_from, value_at}
 use Rattle.tf_table.specs.Content.{first_some}
 
 -- tests of an order

@@ -3,7 +3,7 @@ use Rattle.std.proofs.Common.{◌≡◌, ℕ, zero, suc, ◌+◌, ◌-◌, ◌<�
 use Rattle.std.specs.Ordering.{is_lt, is_gt}
 use Rattle.std.proofs.lemmas.List.{get_or-take, get_or-drop, drop-drop, drop-take, take-take, length-take-le, length-drop}
 use Rattle.std.specs.declared.cmp.Ordering.{Ordering}
-use Rattle.tf_btree.specs.Rows.{AllAfter, IsRising, rows_from, rows_upto}
+use Rattle.tf_sorted.specs.Rows.{AllAfter, IsRising, rows_from, rows_upto}
 use Rattle.tf_table.specs.declared.key.Key.{Key}
 use Rattle.tf_table.specs.declared.entries.Entries.{Entries}
 use Rattle.tf_table.specs.declared.span.Span.{Span}

@@ -7,4 +7,3 @@ pub mod Rows
 pub mod Content
 pub mod First
 pub mod Merge
-pub mod Mutable

@@ -3,7 +3,7 @@ use Rattle.std.specs.Prelude.{◌≡◌, ℕ, ◌+◌, ◌≤◌, List, [], ◌�
 use Rattle.std.specs.declared.cmp.Ordering.{Ordering}
 use Rattle.std.specs.Ordering.{is_lt, is_eq}
 use Rattle.std.specs.Option.{option_copied}
-use Rattle.tf_btree.specs.Rows.{IsRising}
+use Rattle.tf_sorted.specs.Rows.{IsRising}
 use Rattle.tf_table.specs.declared.key.Key.{Key}
 use Rattle.tf_table.specs.Key.{key_cmp}
 use Rattle.tf_table.specs.Content.{entry_at, entry_of, kept}

@@ -1,7 +1,7 @@
 -- How a table lays out its rows: the keys in one run, the entries in another form.
 use Rattle.std.specs.Prelude.{◌≡◌, ℕ, ◌-◌, ◌<◌, List, Option, length, map, slice_index_or}
 use Rattle.std.specs.List.{zip}
-use Rattle.tf_btree.specs.Rows.{IsRising}
+use Rattle.tf_sorted.specs.Rows.{IsRising}
 use Rattle.tf_table.specs.declared.key.Key.{Key}
 use Rattle.tf_table.specs.declared.entries.Entries.{Entries}
 use Rattle.tf_table.specs.declared.span.Span.{Span}
@@ -35,3 +35,8 @@ pub record IsSealed {V A : Type 0} (least greatest : Key) (span : Option Span) (
   pub laid : IsLaidOut least greatest span keys entries
   pub fitted : IsFitted (length keys) keys_room entries
   pub held : HoldsEach words filter_words keys
+
+-- rows that came one after another, and how many there is room for
+pub record Drafted (V : Type 0) : Type 0 where
+  pub rows : List (Key × Option V)
+  pub room : ℕ

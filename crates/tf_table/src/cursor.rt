@@ -1,7 +1,7 @@
 //! A walk over some rows of a table.
 ghost use Rattle.std.specs.Prelude.{◌≡◌, ◌-◌, ◌≤◌, take, drop, length};
 ghost use Rattle.std.specs.Iterator.{YieldsFirstBy, YieldsLastBy, item_count};
-ghost use Rattle.tf_btree.specs.Rows.{IsRising, rows_from, rows_upto};
+ghost use Rattle.tf_sorted.specs.Rows.{IsRising, rows_from, rows_upto};
 ghost use Rattle.tf_table.specs.Key.{key_cmp};
 ghost use Rattle.tf_table.specs.Merge.{seen};
 ghost use Rattle.tf_table.specs.Column.{AreRuns};

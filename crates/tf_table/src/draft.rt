@@ -1,9 +1,8 @@
 //! Rows on their way into a sealed table.
-ghost use Rattle.std.specs.Prelude.{◌≡◌, ◌+◌, ◌<◌, ◌≤◌, [], ◌∷◌, ◌++◌, length, IfOk, OnOk, vec_capacity};
-ghost use Rattle.tf_btree.specs.Rows.{IsRising};
+ghost use Rattle.std.specs.Prelude.{◌≡◌, ◌<◌, [], ◌∷◌, ◌++◌, length, IfOk, OnErr, OnOk};
+ghost use Rattle.tf_sorted.specs.Rows.{IsRising};
 ghost use Rattle.tf_table.specs.Key.{key_cmp};
 ghost use Rattle.tf_table.specs.Content.{kept_row};
-ghost use Rattle.tf_table.specs.Rows.{rows_of, IsPaired, IsFitted};
 
 use crate::entries::Entries;
 use crate::fences::Scale;
@@ -13,22 +12,35 @@ use crate::hints::Hints;
 use crate::span::span_of;
 use crate::{Key, Repeats, Sealed};
 use std::alloc::{AllocError, Allocator};
+use std::marker::Model;
 
 /// Rows that come one after another, before they are sealed.
+///
+/// Contracts see the rows, and for how many there is room. The keys have their room from the start; so do the entries, from the first
+/// one on that differs from the others.
 #[derive(Drop)]
-pub(crate) struct Draft<V, A: Allocator> {
+pub struct Draft<V, A: Allocator> {
     keys: Vec<Key, A>,
     entries: Entries<V, A>,
     room: usize,
 }
 
+impl<V, A: Allocator> Model for Draft<V, A> {
+    ghost use Rattle.std.specs.Prelude.{vec_capacity};
+    ghost use Rattle.tf_table.specs.Rows.{Drafted, rows_of, IsPaired, IsFitted};
+
+    ghost Value = { Drafted V };
+
+    ghost view = { λ d. record { rows = rows_of d.keys.items d.entries; room = d.room } };
+
+    ghost invariant = { λ d. IsPaired d.keys.items d.entries × IsFitted d.room (vec_capacity d.keys) d.entries };
+}
+
 impl<V: Repeats, A: Allocator + Clone> Draft<V, A> {
-    /// No rows, and room for `room` rows.
-    pub(crate) fn with_room(alloc: A, room: usize) -> Result<Self, AllocError>
-        ensures none { IfOk result (λ d. rows_of d.keys.items d.entries ≡ []) }
-        ensures paired { IfOk result (λ d. IsPaired d.keys.items d.entries) }
+    /// No rows, and room for `room` rows. It takes memory for their keys.
+    pub fn with_room(alloc: A, room: usize) -> Result<Self, AllocError>
+        ensures none { IfOk result (λ d. d.rows ≡ []) }
         ensures room { IfOk result (λ d. d.room ≡ room) }
-        ensures fitted { IfOk result (λ d. IsFitted d.room (vec_capacity d.keys) d.entries) }
     {
         let keys = Vec::with_capacity(alloc, room)?;
         Ok(Draft {
@@ -38,16 +50,14 @@ impl<V: Repeats, A: Allocator + Clone> Draft<V, A> {
         })
     }
 
-    /// Puts a row behind the others. After an `Err` the draft is of no more use.
+    /// Puts a row behind the others. It takes memory at the first entry that differs from the others alone, and an `Err` for want of
+    /// it changes nothing.
     #[inline]
-    pub(crate) fn add(&mut self, key: &Key, entry: &Option<V>) -> Result<(), AllocError>
-        requires paired { IsPaired self.old.keys.items self.old.entries }
-        requires fitted { IsFitted self.old.room (vec_capacity self.old.keys) self.old.entries }
-        requires fits { length (rows_of self.old.keys.items self.old.entries) < self.old.room }
-        ensures rows { OnOk result (rows_of self.new.keys.items self.new.entries ≡ rows_of self.old.keys.items self.old.entries ++ (key.now, entry.now) ∷ []) }
-        ensures paired { OnOk result (IsPaired self.new.keys.items self.new.entries) }
-        ensures fitted { OnOk result (IsFitted self.new.room (vec_capacity self.new.keys) self.new.entries) }
+    pub fn add(&mut self, key: &Key, entry: &Option<V>) -> Result<(), AllocError>
+        requires fits { length self.old.rows < self.old.room }
+        ensures rows { OnOk result (self.new.rows ≡ self.old.rows ++ (key.now, entry.now) ∷ []) }
         ensures room { self.new.room ≡ self.old.room }
+        ensures err { OnErr result (self.new ≡ self.old) }
     {
         let rows = self.keys.len();
         self.entries
@@ -56,16 +66,11 @@ impl<V: Repeats, A: Allocator + Clone> Draft<V, A> {
         Ok(())
     }
 
-    /// Puts the row behind the others, unless it is a tombstone at the bottom. After an `Err` the draft is of no more
-    /// use.
+    /// Puts the row behind the others, unless it is a tombstone at the bottom.
     #[inline]
     pub(crate) fn keep(&mut self, row: &Front<'_, V, A>, bottom: bool) -> Result<(), AllocError>
-        requires paired { IsPaired self.old.keys.items self.old.entries }
-        requires fitted { IsFitted self.old.room (vec_capacity self.old.keys) self.old.entries }
-        requires fits { length (rows_of self.old.keys.items self.old.entries) < self.old.room }
-        ensures rows { OnOk result (rows_of self.new.keys.items self.new.entries ≡ rows_of self.old.keys.items self.old.entries ++ kept_row bottom row.now) }
-        ensures paired { OnOk result (IsPaired self.new.keys.items self.new.entries) }
-        ensures fitted { OnOk result (IsFitted self.new.room (vec_capacity self.new.keys) self.new.entries) }
+        requires fits { length self.old.rows < self.old.room }
+        ensures rows { OnOk result (self.new.rows ≡ self.old.rows ++ kept_row bottom row.now) }
         ensures room { self.new.room ≡ self.old.room }
     {
         let entry = row.entry();
@@ -77,11 +82,9 @@ impl<V: Repeats, A: Allocator + Clone> Draft<V, A> {
 
     /// The table of the rows. Room that they don't take is given back. The memory of its filter and of its fences comes from
     /// `alloc`.
-    pub(crate) fn seal(self, alloc: A) -> Result<Sealed<V, A>, AllocError>
-        requires paired { IsPaired self.keys.items self.entries }
-        requires rising { IsRising key_cmp (rows_of self.keys.items self.entries) }
-        requires fitted { IsFitted self.room (vec_capacity self.keys) self.entries }
-        ensures { IfOk result (λ sealed. sealed ≡ rows_of self.keys.items self.entries) }
+    pub fn seal(self, alloc: A) -> Result<Sealed<V, A>, AllocError>
+        requires rising { IsRising key_cmp self.rows }
+        ensures { IfOk result (λ sealed. sealed ≡ self.rows) }
     {
         let keys = fitted(self.keys)?;
         let entries = self.entries.fitted()?;

@@ -1,5 +1,5 @@
 //! The entries of a table's rows, apart from their keys.
-ghost use Rattle.std.specs.Prelude.{◌≡◌, ◌↔◌, ℕ, ◌+◌, ◌-◌, ◌<◌, ◌≤◌, [], ◌∷◌, ◌++◌, length, replicate, take, drop, Option, None, true, IsTrue, IfOk, OnOk, slice_index_or, vec_capacity};
+ghost use Rattle.std.specs.Prelude.{◌≡◌, ◌↔◌, ℕ, ◌+◌, ◌-◌, ◌<◌, ◌≤◌, [], ◌∷◌, ◌++◌, length, replicate, take, drop, Option, None, true, IsTrue, IfOk, OnErr, OnOk, slice_index_or, vec_capacity};
 ghost use Rattle.std.specs.Option.{option_copied};
 ghost use Rattle.tf_table.specs.Entries.{entries_of, HasEntry, HasEntries, IsStored};
 ghost use Rattle.tf_table.specs.Column.{column_of};
@@ -111,6 +111,7 @@ impl<V: Repeats, A: Allocator + Clone> Entries<V, A> {
         requires stored { IsStored room self.old }
         ensures rows { OnOk result (entries_of (rows + 1) self.new ≡ entries_of rows self.old ++ entry.now ∷ []) }
         ensures stored { OnOk result (IsStored room self.new) }
+        ensures err { OnErr result (self.new ≡ self.old) }
     {
         match self {
             Entries::Each(entries) => entries.push_reserved(*entry),

@@ -1,7 +1,7 @@
 //! Laws of tables, each the contract of a function that does nothing.
 ghost use Rattle.std.specs.Prelude.{◌≡◌, List, Option};
 ghost use Rattle.std.specs.Option.{option_flatten};
-ghost use Rattle.tf_btree.specs.Rows.{IsRising, value_at};
+ghost use Rattle.tf_sorted.specs.Rows.{IsRising, value_at};
 ghost use Rattle.tf_table.specs.declared.key.Key.{Key};
 ghost use Rattle.tf_table.specs.Key.{key_cmp};
 ghost use Rattle.tf_table.specs.Content.{content_of, entry_of};

@@ -1,5 +1,4 @@
-//! Mutable tables, whose rows are put and taken back, and sealed tables, whose rows no longer change and are sorted by
-//! key, with their merge.
+//! Sealed tables, whose rows no longer change and are sorted by key, with their merge.
 //!
 //! A row is a key with a value, or with a tombstone, which says that the key is absent.
 #![tactic(auto)]
@@ -15,25 +14,20 @@ mod front;
 mod hints;
 mod key;
 mod laws;
-mod log;
 mod merging;
-mod mutable;
 mod pair;
 mod probe;
 mod sealed;
-mod sealing;
 mod search;
 mod span;
 
 pub use column::Column;
 pub use cursor::Cursor;
+pub use draft::Draft;
 pub use entries::Repeats;
 pub use key::Key;
 pub use laws::content_is_a_map;
-pub use log::Log;
 pub use merging::merge;
-pub use mutable::MutableTable;
 pub use probe::{Probe, take_turns};
 pub use sealed::{Row, Sealed};
-pub use sealing::seal;
 pub use span::Span;

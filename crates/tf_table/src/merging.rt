@@ -1,6 +1,6 @@
 //! The merge of sealed tables.
 ghost use Rattle.std.specs.Prelude.{◌≡◌, ◌+◌, ◌-◌, ◌^◌, ◌<◌, ◌≤◌, [], ◌∷◌, ◌++◌, length, map, sum_by, true, false, IsTrue, IfOk, IfErr, slice_get};
-ghost use Rattle.tf_btree.specs.Rows.{IsRising};
+ghost use Rattle.tf_sorted.specs.Rows.{IsRising};
 ghost use Rattle.tf_table.specs.Key.{key_cmp};
 ghost use Rattle.tf_table.specs.Content.{entry_at, entry_of, content_of, combined, rows_with, kept};
 ghost use Rattle.tf_table.specs.Merge.{EachList, IsMerged, lesser, least_at, has_key, passed};

@@ -1,7 +1,7 @@
 //! A sealed table.
 ghost use Rattle.std.specs.Prelude.{◌≡◌, ◌+◌, ◌^◌, ◌<◌, ◌≤◌, ◌==◌, [], ◌∷◌, ◌++◌, false, length, IfOk, IfSome, IsSome, None, slice_get};
 ghost use Rattle.std.specs.Option.{option_copied, option_map};
-ghost use Rattle.tf_btree.specs.Rows.{IsRising};
+ghost use Rattle.tf_sorted.specs.Rows.{IsRising};
 ghost use Rattle.tf_table.specs.Key.{key_cmp};
 ghost use Rattle.tf_table.specs.Content.{entry_at, AreDated, AreTombstones, HaveOneEntry};
 ghost use Rattle.tf_table.specs.First.{IsFirstAbove};

@@ -2,7 +2,7 @@
 ghost use Rattle.std.specs.Prelude.{◌≡◌, ◌<◌, length, true, false, IfOk, IfErr, IfSome};
 ghost use Rattle.std.specs.Option.{option_copied};
 ghost use Rattle.tf_btree.specs.Subtree.{Subtree, rows};
-ghost use Rattle.tf_btree.specs.Rows.{IsRising, value_at};
+ghost use Rattle.tf_sorted.specs.Rows.{IsRising, value_at};
 ghost use Rattle.tf_btree.specs.Place.{IsAt, IsGap, IsBelow};
 
 use super::Node;

@@ -2,8 +2,7 @@
 ghost use Rattle.std.specs.Prelude.{◌≡◌, ◌<◌, ◌≤◌, [], ◌∷◌, Bool, length, false, IfSome, IfNone};
 ghost use Rattle.tf_btree.specs.Shape.{IsFilled};
 ghost use Rattle.tf_btree.specs.Subtree.{Subtree, rows, fill_of};
-ghost use Rattle.tf_btree.specs.Node.{first_key};
-ghost use Rattle.tf_btree.specs.Rows.{IsRising, value_at, with_row};
+ghost use Rattle.tf_sorted.specs.Rows.{first_key, IsRising, value_at, with_row};
 ghost use Rattle.tf_btree.specs.Inserted.{KeepsLevel};
 
 use super::{CAPACITY, Node};

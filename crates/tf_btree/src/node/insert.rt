@@ -2,7 +2,7 @@
 ghost use Rattle.std.specs.Prelude.{◌≡◌, ◌+◌, ◌<◌, ◌≤◌, [], ◌∷◌, ◌++◌, length, insert, take, drop, suc, slice_index_or, slice_set, true, false, IsSome, IfSome, IfNone, None, OnErr};
 ghost use Rattle.tf_btree.specs.Shape.{AllFilled, Fill, IsFilled, edge_at};
 ghost use Rattle.tf_btree.specs.Subtree.{Subtree, joined, rows, fill_of};
-ghost use Rattle.tf_btree.specs.Rows.{IsRising};
+ghost use Rattle.tf_sorted.specs.Rows.{IsRising};
 ghost use Rattle.tf_btree.specs.Place.{IsGap};
 ghost use Rattle.tf_btree.specs.Node.{empty_node};
 ghost use Rattle.tf_btree.specs.Inserted.{IsInsert, IsParted, IsSplitOf, IsFilledWith, rows_behind, fills_behind};

@@ -2,7 +2,7 @@
 ghost use Rattle.std.specs.Prelude.{◌≡◌, ◌+◌, ◌<◌, ◌≤◌, [], ◌++◌, length, suc, Bool, true, false};
 ghost use Rattle.tf_btree.specs.Shape.{AllFilled, IsFilled, one_more, one_more_at};
 ghost use Rattle.tf_btree.specs.Subtree.{Subtree, rows, fill_of};
-ghost use Rattle.tf_btree.specs.Rows.{IsRising, value_at, without_row};
+ghost use Rattle.tf_sorted.specs.Rows.{IsRising, value_at, without_row};
 ghost use Rattle.tf_btree.specs.Inserted.{KeepsLevel};
 ghost use Rattle.tf_btree.specs.Pair.{IsPairIn};
 

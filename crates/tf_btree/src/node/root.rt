@@ -2,7 +2,7 @@
 ghost use Rattle.std.specs.Prelude.{◌≡◌, ◌+◌, ◌^◌, ◌<◌, ◌≤◌, [], ◌∷◌, ◌++◌, length, suc, None, true, false, IfSome, IsSome, OnErr};
 ghost use Rattle.tf_btree.specs.Shape.{IsFilled};
 ghost use Rattle.tf_btree.specs.Subtree.{Subtree, rows, fill_of};
-ghost use Rattle.tf_btree.specs.Rows.{IsRising, value_at, without_row};
+ghost use Rattle.tf_sorted.specs.Rows.{IsRising, value_at, without_row};
 ghost use Rattle.tf_btree.specs.Node.{empty_node};
 ghost use Rattle.tf_btree.specs.Inserted.{IsInsert};
 ghost use Rattle.tf_btree.specs.Tree.{rows_under, IsRoot, IsRootIfAny, IsTall};

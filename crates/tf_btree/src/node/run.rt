@@ -1,8 +1,8 @@
 //! Runs of rows in one leaf, for cursors.
 ghost use Rattle.std.specs.Prelude.{◌≡◌, ◌<◌, ◌+◌, [], drop, length, not, true, false, None, IsSome};
 ghost use Rattle.tf_btree.specs.Subtree.{Subtree, joined, rows};
-ghost use Rattle.tf_btree.specs.Node.{first_key, unboxed};
-ghost use Rattle.tf_btree.specs.Rows.{IsRising, value_at};
+ghost use Rattle.tf_btree.specs.Node.{unboxed};
+ghost use Rattle.tf_sorted.specs.Rows.{first_key, IsRising, value_at};
 ghost use Rattle.tf_btree.specs.Run.{IsRunFrom, AllLeaves, pairs, rows_of};
 
 use super::Node;

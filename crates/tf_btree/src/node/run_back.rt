@@ -2,7 +2,7 @@
 ghost use Rattle.std.specs.Prelude.{◌≡◌, ◌<◌, ◌≤◌, ◌-◌, [], take, drop, length, true, false, None, slice_index_or};
 ghost use Rattle.tf_btree.specs.Subtree.{Subtree, joined, rows};
 ghost use Rattle.tf_btree.specs.Node.{unboxed};
-ghost use Rattle.tf_btree.specs.Rows.{IsRising};
+ghost use Rattle.tf_sorted.specs.Rows.{IsRising};
 ghost use Rattle.tf_btree.specs.Run.{AllLeaves, rows_of};
 ghost use Rattle.tf_btree.specs.RunBack.{is_within, IsCut, IsRunTo, IsLastWithin};
 

@@ -7,7 +7,7 @@ use Rattle.std.proofs.Crossing.{crosses}
 use Rattle.tf_query_all.proofs.filter.Filter.TheSendSync as filter
 use Rattle.rayon.proofs.iter.map.Map.TheSendSync as map
 use Rattle.rayon.proofs.slice.Iter.TheSendSync as iter
-use Rattle.tf_query_all.proofs.Crossing.{version-sync}
+use Rattle.tf_query.proofs.Crossing.{version-sync}
 use denote.Param.Send.{sendable}
 use Rattle.tf_query_all.proofs.AllAnswers.{collected-answers, collected-fails}
 use Rattle.tf_query_all.proofs.query_all.Goals as goal

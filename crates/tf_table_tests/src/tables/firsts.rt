@@ -6,8 +6,9 @@ use crate::asserts::assert_at;
 use std::alloc::{AllocError, Global};
 use std::process::Abort;
 use std::test::Fail;
+use tf_mutable::{Log, MutableTable};
 use tf_records::Refusal;
-use tf_table::{Key, Log, MutableTable, Sealed};
+use tf_table::{Key, Sealed};
 
 /// Rows of a table.
 const ROWS: u64 = 300;

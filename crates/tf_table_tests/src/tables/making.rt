@@ -3,8 +3,9 @@
 use super::words::Row;
 use std::alloc::{Allocator, Global};
 use tf_btree::Tree;
+use tf_mutable::{Log, MutableTable, seal};
 use tf_records::Refusal;
-use tf_table::{Key, Log, MutableTable, Sealed, merge, seal};
+use tf_table::{Key, Sealed, merge};
 
 /// A tree of the rows of these tests.
 pub(super) type Rows<A> = Tree<Key, Option<u64>, A>;

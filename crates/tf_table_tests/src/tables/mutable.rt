@@ -8,8 +8,9 @@ use std::alloc::{AllocError, Allocator, Global};
 use std::process::Abort;
 use std::test::Fail;
 use tf_btree::Tree;
+use tf_mutable::{Log, MutableTable};
 use tf_records::Refusal;
-use tf_table::{Key, Log, MutableTable, Sealed};
+use tf_table::{Key, Sealed};
 
 /// Rows of a table that is filled.
 const ROWS: u64 = 2000;

@@ -8,8 +8,9 @@ use std::alloc::{Allocator, Global};
 use std::process::Abort;
 use std::test::Fail;
 use tf_btree::Tree;
+use tf_mutable::seal;
 use tf_records::Refusal;
-use tf_table::{Key, Sealed, merge, seal};
+use tf_table::{Key, Sealed, merge};
 
 /// Bytes by which a heap grows from one try to the next.
 ///

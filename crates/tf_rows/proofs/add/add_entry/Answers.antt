@@ -1,5 +1,5 @@
 use Rattle.std.proofs.Common.{List, sym, subst}
-use Rattle.tf_btree.proofs.Children.{on_ok}
+use Rattle.tf_manifest.proofs.Maps.{on_ok}
 use Rattle.tf_journal.specs.declared.entry.Entry.TheVariants as entry
 use Rattle.tf_rows.specs.declared.change.Change.{Change}
 use Rattle.tf_rows.specs.Changes.{CanChangeAll, present}

@@ -1,5 +1,5 @@
 use Rattle.std.proofs.Common.{◌≡◌, ◌+◌, length}
-use Rattle.tf_btree.specs.Rows.{rows_from}
+use Rattle.tf_sorted.specs.Rows.{rows_from}
 use Rattle.tf_table.specs.Key.{key_cmp}
 use Rattle.tf_manifest.specs.declared.row.Row.TheVariants as row
 use Rattle.tf_rows.specs.Due.{due_pairs}

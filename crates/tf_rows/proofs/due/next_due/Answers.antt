@@ -1,6 +1,6 @@
 use Rattle.std.proofs.Common.{◌≡◌, ◌∷◌, ◌∙◌, ap, sym, Option, None}
 use Rattle.std.specs.Option.{option_and_then}
-use Rattle.tf_btree.specs.Node.{first_key}
+use Rattle.tf_sorted.specs.Rows.{first_key}
 use Rattle.tf_records.specs.declared.transfer.Transfer.{Transfer}
 use Rattle.tf_table.specs.declared.key.Key.{Key}
 use Rattle.tf_manifest.specs.declared.row.Row.TheVariants as row

@@ -1,6 +1,6 @@
 use Rattle.std.proofs.Common.{◌≡◌, ◌+◌, length, arith, rules, ap}
 use Rattle.std.proofs.lemmas.List.Sums.{sum_by_more}
-use Rattle.tf_btree.specs.Rows.{IsRising}
+use Rattle.tf_sorted.specs.Rows.{IsRising}
 use Rattle.tf_table.specs.Key.{key_cmp}
 use Rattle.tf_table.proofs.Walks.{tables_more}
 use Rattle.tf_table.proofs.merging.count_rows.Goals as goal

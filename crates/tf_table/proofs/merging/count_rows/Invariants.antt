@@ -1,5 +1,5 @@
 use Rattle.std.proofs.Common.{◌≡◌, take, map, length, sum_by}
-use Rattle.tf_btree.specs.Rows.{IsRising}
+use Rattle.tf_sorted.specs.Rows.{IsRising}
 use Rattle.tf_table.specs.Key.{key_cmp}
 use Rattle.tf_table.specs.Merge.{EachList}
 use Rattle.tf_table.proofs.merging.count_rows.Given as goal

@@ -1,6 +1,5 @@
-use Rattle.std.proofs.Common.{◌≡◌, length, sum_by, vec_capacity}
+use Rattle.std.proofs.Common.{◌≡◌, length, sum_by}
 use Rattle.tf_table.specs.Key.{key_cmp}
-use Rattle.tf_table.specs.Rows.{rows_of, IsPaired, IsFitted}
 use Rattle.tf_table.proofs.Keys.{keys_total, exact_keys}
 use Rattle.tf_table.proofs.Least.{left_of, rows_left}
 use Rattle.tf_table.proofs.Combine.{Combines}
@@ -9,11 +8,9 @@ use Rattle.tf_table.proofs.merging.merged_all.Given as goal
 
 abbrev pub invariant-loop-row : goal.invariant-loop-row
 invariant-loop-row g l = record {
-  paired : IsPaired l.draft.keys.items l.draft.entries;
-  fitted : IsFitted l.draft.room (vec_capacity l.draft.keys) l.draft.entries;
   room : l.draft.room ≡ sum_by (λ table. length table.now) l.tables;
   places : length l.places.items ≡ length l.tables;
-  combines : Combines key_cmp keys_total exact_keys l.bottom (lists_of l.tables) (left_of (lists_of l.tables) l.places.items) (rows_of l.draft.keys.items l.draft.entries);
+  combines : Combines key_cmp keys_total exact_keys l.bottom (lists_of l.tables) (left_of (lists_of l.tables) l.places.items) l.draft.rows;
 }
 
 abbrev pub decreases-loop-row : goal.decreases-loop-row

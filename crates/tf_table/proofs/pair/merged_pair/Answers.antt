@@ -4,7 +4,6 @@ use Rattle.tf_table.specs.declared.key.Key.{Key}
 use Rattle.tf_table.specs.Key.{key_cmp}
 use Rattle.tf_table.specs.Content.{kept_row}
 use Rattle.tf_table.specs.Merge.{least_at}
-use Rattle.tf_table.specs.Rows.{rows_of}
 use Rattle.tf_table.proofs.Keys.{keys_total, exact_keys}
 use Rattle.tf_table.proofs.Least.{left_of, rows_left}
 use Rattle.tf_table.proofs.Combine.{Combines, merge_step, merge_fewer}
@@ -24,14 +23,12 @@ loop-step-preserved g c =
     let lists = c.args.newer.now ∷ c.args.older.now ∷ [] in
     let places = c.loop-step.newer_place ∷ c.loop-step.older_place ∷ [] in
     let r = c.in-Some.step.row in
-    let out = rows_of c.loop-step.draft.keys.items c.loop-step.draft.entries in
+    let out = c.loop-step.draft.rows in
     let e : least_at key_cmp lists places ≡ Some r = sym c.in-Some.ensures.row in
     let more : Combines key_cmp keys_total exact_keys c.args.bottom lists (left_of lists (c.in-Some.step.newer ∷ c.in-Some.step.older ∷ [])) (out ++ kept_row c.args.bottom r) =
     subst (λ (ps : List ℕ). Combines key_cmp keys_total exact_keys c.args.bottom lists (left_of lists ps) (out ++ kept_row c.args.bottom r)) (sym c.in-Some.ensures.places)
     (merge_step key_cmp keys_total exact_keys c.args.bottom lists places out r c.loop-step.invariant.combines e) in
     record {
-      paired = c.in_ok-keep.ensures.paired;
-      fitted = c.in_ok-keep.ensures.fitted;
       room = c.keep.ensures.room ∙ c.loop-step.invariant.room;
       combines = subst (λ (rows : List (Key × Option g.row.V.Denot)). Combines key_cmp keys_total exact_keys c.args.bottom lists (left_of lists (c.in-Some.step.newer ∷ c.in-Some.step.older ∷ [])) rows) (sym c.in_ok-keep.ensures.rows) more;
     }
@@ -41,4 +38,4 @@ returns g c =
     let lists = c.args.newer.now ∷ c.args.older.now ∷ [] in
     let places = c.loop-step.newer_place ∷ c.loop-step.older_place ∷ [] in
     let e : least_at key_cmp lists places ≡ None = sym c.next_step.ensures.row ∙ ap (option_map (λ step. step.row)) (none_from_not c.next_step.result c.in_default.not-Some) in
-    merges_sealed c.args.bottom lists places (rows_of c.loop-step.draft.keys.items c.loop-step.draft.entries) c.seal.result c.seal.ensures c.loop-step.invariant.combines e
+    merges_sealed c.args.bottom lists places c.loop-step.draft.rows c.seal.result c.seal.ensures c.loop-step.invariant.combines e

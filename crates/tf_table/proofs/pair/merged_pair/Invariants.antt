@@ -1,6 +1,5 @@
-use Rattle.std.proofs.Common.{◌≡◌, ◌+◌, [], ◌∷◌, length, vec_capacity}
+use Rattle.std.proofs.Common.{◌≡◌, ◌+◌, [], ◌∷◌, length}
 use Rattle.tf_table.specs.Key.{key_cmp}
-use Rattle.tf_table.specs.Rows.{rows_of, IsPaired, IsFitted}
 use Rattle.tf_table.proofs.Keys.{keys_total, exact_keys}
 use Rattle.tf_table.proofs.Least.{left_of, rows_left}
 use Rattle.tf_table.proofs.Combine.{Combines}
@@ -8,10 +7,8 @@ use Rattle.tf_table.proofs.pair.merged_pair.Given as goal
 
 abbrev pub invariant-loop-step : goal.invariant-loop-step
 invariant-loop-step g l = record {
-  paired : IsPaired l.draft.keys.items l.draft.entries;
-  fitted : IsFitted l.draft.room (vec_capacity l.draft.keys) l.draft.entries;
   room : l.draft.room ≡ length l.newer + length l.older;
-  combines : Combines key_cmp keys_total exact_keys l.bottom (l.newer ∷ l.older ∷ []) (left_of (l.newer ∷ l.older ∷ []) (l.newer_place ∷ l.older_place ∷ [])) (rows_of l.draft.keys.items l.draft.entries);
+  combines : Combines key_cmp keys_total exact_keys l.bottom (l.newer ∷ l.older ∷ []) (left_of (l.newer ∷ l.older ∷ []) (l.newer_place ∷ l.older_place ∷ [])) l.draft.rows;
 }
 
 abbrev pub decreases-loop-step : goal.decreases-loop-step

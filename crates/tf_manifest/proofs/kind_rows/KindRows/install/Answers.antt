@@ -2,11 +2,10 @@ use Rattle.std.proofs.Common.{◌≡◌, ◌<◌, ◌∙◌, ap, sym, subst, len
 use Rattle.std.specs.Prelude.{slice_index_or}
 use Rattle.std.specs.List.{refill}
 use Rattle.std.proofs.lemmas.List.{get_or_default}
-use Rattle.tf_btree.proofs.Children.{on_ok}
 use Rattle.tf_registry.specs.Install.{OnFull, OnStale, IfNoMemory}
 use Rattle.tf_registry.specs.Run.{Stands, Installs}
 use Rattle.tf_registry.specs.Table.{Shown}
-use Rattle.tf_manifest.proofs.Maps.{refill_whole, length-slice_set, set_back, on_err}
+use Rattle.tf_manifest.proofs.Maps.{refill_whole, length-slice_set, set_back, on_err, on_ok}
 use Rattle.tf_manifest.proofs.kind_rows.KindRows.install.Given as given
 use Rattle.tf_manifest.proofs.kind_rows.KindRows.install.Goals as goal
 

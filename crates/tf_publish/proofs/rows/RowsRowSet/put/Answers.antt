@@ -1,6 +1,6 @@
 use Rattle.std.proofs.Common.{Result, Ok, Err, ap}
 use Rattle.std.specs.Prelude.{IfOk}
-use Rattle.tf_btree.proofs.Children.{on_err}
+use Rattle.tf_manifest.proofs.Maps.{on_err}
 use Rattle.tf_rows.specs.Parts.{Entries, parts_of}
 use Rattle.tf_publish.proofs.Sealed.{put_in_front}
 use Rattle.tf_publish.proofs.rows.RowsRowSet.put.Goals as goal

@@ -10,7 +10,7 @@ invariant_of-result g c =
       laid = search rules;
       fitted = (
         c.in_ok-keys.ensures.room ∙ sym n,
-        subst (λ m. IsStored m c.in_ok-entries.entries) (sym n) (c.in_ok-entries.ensures.stored c.args.self.room (length c.args.self.keys.items) c.requires.fitted.1 c.requires.paired),
+        subst (λ m. IsStored m c.in_ok-entries.entries) (sym n) (c.in_ok-entries.ensures.stored c.self.inside.room (length c.self.inside.keys.items) c.self.invariant.1.1 c.self.invariant.0),
       );
       held = subst (HoldsEach c.in_ok-hints.hints.words.items c.in_ok-hints.hints.filter_words) c.deref-4.ensures.value c.in_ok-hints.ensures.held;
     }

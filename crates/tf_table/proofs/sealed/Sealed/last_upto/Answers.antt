@@ -1,5 +1,5 @@
 use Rattle.std.proofs.Common.{◌≡◌, List, ◌+◌, ◌≤◌, length, Option, arith, ap, ◌∙◌, subst}
-use Rattle.tf_btree.specs.Rows.{rows_upto}
+use Rattle.tf_sorted.specs.Rows.{rows_upto}
 use Rattle.tf_table.specs.declared.key.Key.{Key}
 use Rattle.tf_table.specs.Key.{key_cmp}
 use Rattle.tf_table.proofs.LaidOut.{length-rows_of}

@@ -1,5 +1,5 @@
 use Rattle.std.proofs.Common.{◌∙◌, ap}
-use Rattle.tf_btree.specs.Rows.{rows_upto}
+use Rattle.tf_sorted.specs.Rows.{rows_upto}
 use Rattle.tf_table.specs.Key.{key_cmp}
 use Rattle.tf_table.proofs.Spans.{span_all}
 use Rattle.tf_table.proofs.sealed.Sealed.rows_upto.Goals as goal

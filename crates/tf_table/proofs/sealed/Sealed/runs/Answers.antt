@@ -1,6 +1,6 @@
 use Rattle.std.proofs.Common.{◌≡◌, List, ◌≤◌, length, Option, arith, ap, subst, ◌∙◌}
 use Rattle.tf_table.specs.declared.key.Key.{Key}
-use Rattle.tf_btree.specs.Rows.{IsRising}
+use Rattle.tf_sorted.specs.Rows.{IsRising}
 use Rattle.tf_table.specs.Key.{key_cmp}
 use Rattle.tf_table.specs.Column.{AreRuns}
 use Rattle.tf_table.proofs.LaidOut.{length-rows_of}
