@@ -1,11 +1,12 @@
 -- What is pushed of a publish that is refused in the middle, row by row.
 use Rattle.std.proofs.Common.{◌≡◌, ℕ, zero, suc, ◌+◌, ◌-◌, ◌<◌, ◌≤◌, List, Result, Ok, Err, OnOk, OnErr, Bool, true, false, cond, refl, sym, ◌∙◌, ap, subst, arith, ◌⊎◌, inl, inr}
-use Rattle.std.specs.Prelude.{◌==◌}
+use Rattle.std.specs.Prelude.{◌==◌, ◌≢◌, []}
 use Rattle.std.proofs.lemmas.Bool.{both_ways, eq-eqb, eqb-true}
 use Rattle.tf_records.specs.declared.refusal.Refusal.{Refusal}
 use Rattle.tf_manifest.specs.declared.row.Row.{Row}
 use Rattle.tf_manifest.specs.Kinds.{kind_of}
 use Rattle.tf_manifest.specs.RowNames.{rows_in_order}
+use Rattle.tf_registry.specs.Row.{is_nil}
 use Rattle.tf_registry.specs.Table.{Shown}
 use Rattle.tf_manifest.specs.View.{StoredBy, references_in, tables_by, value_by}
 use Rattle.tf_rows.specs.Counts.{Counted, Sealed, counted, with_lost}
@@ -30,14 +31,20 @@ no_part fresh r now = record {
   held = omega arith;
 }
 
--- a full row has room
-pub part_by_place : (fresh : Entries) (r : Row) (old new : Counted) → MakesPlaceIn r old new → new.tables.pushed.count ≡ old.tables.pushed.count + cond (references_in old.tables r == 64) 1 0 → PublishesPartIn fresh r old new
-part_by_place fresh r old new place count = by_test (references_in old.tables r == 64) refl where
+-- a list that isn't empty
+some_entry : {X : Type 0} (xs : List X) → is_nil xs ≡ false → xs ≢ []
+some_entry {X = X} xs some none = both_ways (is_nil xs) some (ap (λ (ys : List X). is_nil ys) none)
+
+-- a full row whose mutable table has an entry has room
+pub part_by_place : (fresh : Entries) (r : Row) (old new : Counted) → is_nil (fresh r) ≡ false → MakesPlaceIn r old new → new.tables.pushed.count ≡ old.tables.pushed.count + cond (references_in old.tables r == 64) 1 0 → PublishesPartIn fresh r old new
+part_by_place fresh r old new some place count = by_test (references_in old.tables r == 64) refl where
   by_test : (b : Bool) → (references_in old.tables r == 64) ≡ b → PublishesPartIn fresh r old new
   by_test true full = record {
     tables = 1;
     entries = place.entries;
-    part = inr (inl (place.place.full (eqb-true (references_in old.tables r) 64 full), refl));
+    part =
+        let all = eqb-true (references_in old.tables r) 64 full in
+        inr (inl (some_entry (fresh r) some, all, place.place.full all, refl));
     others = place.others;
     pushed = count ∙ ap (λ (b : Bool). old.tables.pushed.count + cond b 1 0) full;
     held = place.held;

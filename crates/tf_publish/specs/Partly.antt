@@ -1,5 +1,5 @@
 -- What a publish has pushed, be it that it was refused in the middle.
-use Rattle.std.specs.Prelude.{◌≡◌, ◌⊎◌, ℕ, ◌+◌, ◌-◌, List, length, Option}
+use Rattle.std.specs.Prelude.{◌≡◌, ◌≢◌, ◌⊎◌, ℕ, ◌+◌, ◌-◌, List, [], length, Option}
 use Rattle.tf_table.specs.declared.key.Key.{Key}
 use Rattle.tf_manifest.specs.declared.row.Row.{Row}
 use Rattle.tf_manifest.specs.declared.value.Value.{Value}
@@ -13,11 +13,11 @@ use Rattle.tf_publish.specs.Publish.{needed_for}
 use Rattle.tf_publish.specs.Tables.{KeepsOthers, MergesInPlace, PublishesTables, sum_of}
 
 -- how far a row was published, for which so many tables were pushed, with so many entries: not at all, until there was room
--- in a full row, or wholly
+-- in a full row whose mutable table has an entry, or wholly
 abbrev pub PublishesPart : {V : Type 0} → (V → Value) → List (Key × Option Value) → List (Shown V) → List (Shown V) → ℕ → ℕ → Type 0
 PublishesPart seen fresh old new tables entries =
     ((new ≡ old) × (tables ≡ 0) × (entries ≡ 0))
-    ⊎ ((MergesInPlace old new entries × (tables ≡ 1))
+    ⊎ (((fresh ≢ []) × (length old ≡ 64) × MergesInPlace old new entries × (tables ≡ 1))
     ⊎ (PublishesTables seen fresh old new entries × (tables ≡ needed_for fresh (length old))))
 
 -- one row was published in part, and what was pushed for it is counted

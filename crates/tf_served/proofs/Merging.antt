@@ -1,6 +1,7 @@
 -- An install leaves the limit of pushes, and a job that was just picked stands in its row.
-use Rattle.std.proofs.Common.{◌≡◌, ◌+◌, List, Result, Ok, Err, IfErr, OnErr, OnOk, inl, inr, length, refl, subst, sym, ap, ◌∙◌}
-use Rattle.std.specs.Prelude.{◌⊎◌}
+use Rattle.std.proofs.Common.{◌≡◌, ◌+◌, ◌<◌, ℕ, List, Result, Ok, Err, IfErr, OnErr, OnOk, inl, inr, length, refl, subst, sym, ap, arith, ◌∙◌}
+use Rattle.std.specs.Prelude.{◌≢◌, ◌⊎◌, ◌==◌}
+use Rattle.std.proofs.lemmas.Bool.{both_ways, cases_lt, eq-eqb}
 use Rattle.std.specs.Result.{is_ok}
 use Rattle.tf_manifest.specs.declared.jobs.Job.{Job}
 use Rattle.tf_manifest.specs.declared.jobs.Merged.{Merged}
@@ -8,21 +9,28 @@ use Rattle.tf_manifest.specs.declared.jobs.Merged.TheVariants as merged
 use Rattle.tf_manifest.specs.declared.kind.Kind.{Kind}
 use Rattle.tf_manifest.specs.declared.kind.Kind.TheVariants as kind
 use Rattle.tf_manifest.specs.declared.row.Row.{Row}
+use Rattle.tf_manifest.specs.Kinds.{kind_of}
 use Rattle.tf_manifest.specs.Jobs.{InstallsIn, IsPickedFrom, StandsIn, job_of, kind_of_job, kind_of_merged, output_of, run_of}
 use Rattle.tf_registry.specs.declared.uninstalled.Uninstalled.{Uninstalled}
 use Rattle.tf_registry.specs.declared.uninstalled.Uninstalled.TheVariants as uninstalled
 use Rattle.tf_registry.specs.Install.{OnFull, OnStale}
 use Rattle.tf_registry.specs.Limit.{Pushed, one_more}
-use Rattle.tf_registry.specs.Run.{Stands}
+use Rattle.tf_registry.specs.Run.{Stands, count_at}
 use Rattle.tf_registry.specs.Table.{Shown}
 use Rattle.tf_manifest.specs.View.{StoredBy, tables_by, with_rows}
 use Rattle.tf_manifest.specs.View as manifest
 use Rattle.tf_records.specs.declared.refusal.Refusal.{Refusal}
 use Rattle.tf_records.specs.declared.refusal.Refusal.TheVariants as refusal
+use Rattle.tf_publish.specs.Tables.{KeepsOthers}
 use Rattle.tf_rows.specs.declared.counts.Counts.{Counts}
+use Rattle.tf_rows.specs.Parts.{place_of}
 use Rattle.tf_forest.specs.Forest.{View}
 use Rattle.tf_store.specs.Store as store
-use Rattle.tf_served.specs.Served.{IsCompacted, IsFull, Stays}
+use Rattle.tf_publish.proofs.Measures.{installed}
+use Rattle.tf_publish.proofs.OneRow.{of_row, others_stay}
+use Rattle.tf_rows.proofs.Fresh.{apart_by}
+use Rattle.tf_rows.proofs.Next.{by_row}
+use Rattle.tf_served.specs.Served.{IsCompacted, IsFull, IsMergedOut, Stays}
 
 -- other rows leave what was pushed
 pushed_stays : (view : manifest.View) (k : Kind) (rows : List (List (Shown (StoredBy k)))) → (with_rows view k rows).pushed ≡ view.pushed
@@ -48,6 +56,24 @@ job_stands view (merged.Unit row out) stands = stands
 job_stands view (merged.State out) stands = stands
 job_stands view (merged.Sums out) stands = stands
 job_stands view (merged.Status out) stands = stands
+
+-- an install leaves the tables of other rows
+pub others_left : {A N : Type 0} (old new : manifest.View) (m : Merged A N) → InstallsIn old m new → (other : Kind) → other ≢ kind_of_merged m → tables_by new other ≡ tables_by old other
+others_left old new m installs other apart =
+    ap (λ (v : manifest.View). tables_by v other) (installed old new m installs)
+    ∙ others_stay old (one_more old.pushed) (kind_of_merged m) other installs.installs.tables apart
+
+-- and so does one that is refused, which changes nothing
+pub others_left_by : {A N E : Type 0} (old new : store.View) (m : Merged A N) (answer : Result (Unit {0}) E) → OnOk answer (InstallsIn old.forest.sealed.tables m new.forest.sealed.tables) → OnErr answer (new ≡ old)
+    → (other : Kind) → other ≢ kind_of_merged m → tables_by new.forest.sealed.tables other ≡ tables_by old.forest.sealed.tables other
+others_left_by old new m (Ok done) installs same other apart = others_left old.forest.sealed.tables new.forest.sealed.tables m installs other apart
+others_left_by old new m (Err e) installs same other apart = ap (λ (v : store.View). tables_by v.forest.sealed.tables other) same
+
+-- the tables of all rows but that of the job
+pub others_kept_by : {A N : Type 0} (row : Row) (j : Job A N) (m : Merged A N) (old new : manifest.View) → IsPickedFrom old row j → job_of m ≡ j
+    → ((other : Kind) → other ≢ kind_of_merged m → tables_by new other ≡ tables_by old other) → KeepsOthers row old new
+others_kept_by {A = A} {N = N} row j m old new picked is left other apart =
+    left (kind_of other) (λ e. apart_by row other apart (e ∙ of_row {A = A} {N = N} old row j m picked is))
 
 -- what a job was merged into stands where the job was picked
 pub picked_stands : {A N : Type 0} (view : manifest.View) (row : Row) (j : Job A N) (m : Merged A N) → IsPickedFrom view row j → job_of m ≡ j → StandsIn view m
@@ -134,3 +160,21 @@ stays_on old mid new first second = record {
   limit = second.limit ∙ first.limit;
   publishes = second.publishes ∙ first.publishes;
 }
+
+below_or_at : (a n : ℕ) → a < n + 1 → ¬ (a ≡ n) → a < n
+below_or_at a n within apart = elim (cases_lt a n) [
+  | inl below ↦ below
+  | inr from ↦ absurd (apart (omega (arith, within, from)))
+]
+
+-- one more row has no run to merge, and those before it have none still
+pub merged_on : (old new : View) (n : ℕ) (row : Row) → place_of row ≡ n → ((r : Row) → place_of r < n → IsMergedOut old r) → KeepsOthers row old.sealed.tables new.sealed.tables → IsMergedOut new row
+    → (r : Row) → place_of r < n + 1 → IsMergedOut new r
+merged_on old new n row stands before others own r within =
+    by_row (IsMergedOut new r) r row
+    (λ e. subst (IsMergedOut new) (sym e) own)
+    (λ differ level.
+    let apart : r ≢ row = λ e. both_ways (place_of r == place_of row) differ (eq-eqb (place_of r) (place_of row) (ap place_of e)) in
+    let other : ¬ (place_of r ≡ place_of row) = λ e. both_ways (place_of r == place_of row) differ (eq-eqb (place_of r) (place_of row) e) in
+    let less : place_of r < n = below_or_at (place_of r) n within (λ e. other (e ∙ sym stands)) in
+    subst (λ (ts : List (Shown (StoredBy (kind_of r)))). count_at level ts < 4) (sym (others r apart)) (before r less level))

@@ -1,5 +1,5 @@
 -- What a store's calls leave, as what a script's commands ask for.
-use Rattle.std.proofs.Common.{arith, ◌≡◌, ◌≢◌, ◌<◌, ◌≤◌, ◌+◌, ◌&&◌, ◌==◌, ℕ, Bool, true, false, Option, Some, None, Result, Ok, Err, IfErr, MatchOption, ap, subst, sym, refl, inl, inr}
+use Rattle.std.proofs.Common.{arith, ◌≡◌, ◌≢◌, ◌<◌, ◌≤◌, ◌+◌, ◌&&◌, ◌==◌, ℕ, Bool, true, false, Option, Some, None, List, Result, Ok, Err, IfErr, OnOk, MatchOption, ap, subst, sym, refl, inl, inr}
 use Rattle.std.specs.Prelude.{if◌then◌else◌, nat_le}
 use Rattle.std.proofs.lemmas.Bool.{le-leb}
 use Rattle.tf_records.specs.declared.refusal.Refusal.{Refusal}
@@ -8,9 +8,11 @@ use Rattle.tf_script.specs.Command.{Command, accounts, transfers, pulse, publish
 use Rattle.tf_rows.specs.Counts.{AreBounded}
 use Rattle.tf_forest.specs.Forest.{View}
 use Rattle.tf_store.specs.Publish.{IsPublish, IsTaken}
+use Rattle.tf_main.specs.declared.fault.RunFault.{RunFault}
 use Rattle.tf_main.specs.Engine.{MayBeRefused}
+use Rattle.tf_main.specs.Run.{IsPrinted}
 use Rattle.tf_main.specs.Script.{asks_memory, publishes, pushes, refusal_of}
-use Rattle.tf_served.specs.Served.{IsCompacted, IsFull, IsRead, IsRefused, Serves}
+use Rattle.tf_served.specs.Served.{IsCompacted, IsDone, IsDoneOrFull, IsFull, IsRead, IsRefused, Serves}
 
 -- over sealed tables every command may ask for memory
 pub all_ask : (command : Command) → asks_memory true command ≡ true
@@ -166,3 +168,31 @@ read_as old new x y read = record {
   publishes = read.publishes;
   refused = tt;
 }
+
+-- and left nothing waiting
+pub none_waits : {X : Type 0} (old new : View) (result : Result X Refusal) → IsPublish old new result → OnOk result (new.waiting ≡ 0)
+none_waits old new (Ok x) published = published.all.1
+none_waits old new (Err r) published = tt
+
+-- a command that isn't for that has nothing to do
+pub nothing_to_do : {Y : Type 0} (command : Command) (forest : View) (before after : Option (List ℕ)) (result : Result Y RunFault) → IsDone command forest → IsDoneOrFull command forest before after result
+nothing_to_do command forest before after (Ok y) done = inr done
+nothing_to_do command forest before after (Err fault) done = tt
+
+no_due : (due : Option Refusal) (P : Type 0) (Q : Refusal → Type 0) → due ≡ None → MatchOption due P Q → P
+no_due None P Q none p = p
+no_due (Some s) P Q none q = cc
+
+-- the outcome of a publish or of a compaction was printed
+pub done_or_full : {X Y : Type 0} (old new : View) (command : Command) (lines : X → List ℕ) (outcome : Result X Refusal) (before after : Option (List ℕ)) (result : Result Y RunFault)
+    → refusal_of old.journal old.clock command ≡ None → Serves old new command outcome → IsPrinted lines outcome before after result → OnOk outcome (IsDone command new)
+    → IsDoneOrFull command new before after result
+done_or_full old new command lines outcome before after (Err fault) none served printed done = tt
+done_or_full old new command lines (Ok x) before after (Ok y) none served printed done = inr done
+done_or_full old new command lines (Err refusal.NoMemory) before after (Ok y) none served printed done = absurd (printed.served refl)
+done_or_full old new command lines (Err refusal.RegistryFull) before after (Ok y) none served printed done = inl printed.written
+done_or_full old new command lines (Err refusal.BatchTooLarge) before after (Ok y) none served printed done = absurd (no_due (refusal_of old.journal old.clock command) _ _ none served.refused)
+done_or_full old new command lines (Err refusal.ClockExhausted) before after (Ok y) none served printed done = absurd (no_due (refusal_of old.journal old.clock command) _ _ none served.refused)
+done_or_full old new command lines (Err refusal.Stale) before after (Ok y) none served printed done = absurd (no_due (refusal_of old.journal old.clock command) _ _ none served.refused)
+done_or_full old new command lines (Err (refusal.BadLine line column)) before after (Ok y) none served printed done = absurd (no_due (refusal_of old.journal old.clock command) _ _ none served.refused)
+done_or_full old new command lines (Err (refusal.BadRecord length)) before after (Ok y) none served printed done = absurd (no_due (refusal_of old.journal old.clock command) _ _ none served.refused)

@@ -1,12 +1,18 @@
 -- What the calls of a store leave that store nothing.
-use Rattle.std.specs.Prelude.{◌≡◌, ◌+◌, ◌≤◌, ℕ, List, Option, Result, IfErr, true}
+use Rattle.std.specs.Prelude.{◌≡◌, ◌⊎◌, ◌+◌, ◌<◌, ◌≤◌, ℕ, List, Option, Result, IfErr, OnOk, true}
+use Rattle.std.specs.Io.KnownBytes.{Appends}
 use Rattle.tf_records.specs.declared.refusal.Refusal.{Refusal}
 use Rattle.tf_records.specs.declared.refusal.Refusal.TheVariants as refusal
+use Rattle.tf_manifest.specs.declared.row.Row.{Row}
+use Rattle.tf_manifest.specs.Kinds.{kind_of}
+use Rattle.tf_manifest.specs.View.{tables_by}
+use Rattle.tf_registry.specs.Run.{count_at}
 use Rattle.tf_forest.specs.Forest.{View}
-use Rattle.tf_script.specs.Command.{Command}
+use Rattle.tf_script.specs.Command.{Command, publish, compact}
 use Rattle.tf_main.specs.declared.fault.RunFault.{RunFault}
 use Rattle.tf_main.specs.declared.fault.RunFault.TheVariants.{NoMemory, BadLine, CannotWrite}
 use Rattle.tf_main.specs.Engine.{IsServed}
+use Rattle.tf_main.specs.Line.{refusal_line}
 use Rattle.tf_main.specs.Run.{IsCommandRun}
 use Rattle.tf_main.specs.Script.{HasAnsweredPart, StopsForMemory}
 
@@ -49,6 +55,20 @@ pub record Stays (old new : View) : Type 0 where
 pub record IsCompacted {X : Type 0} (old new : View) (result : Result X Refusal) : Type 0 where
   pub stays : Stays old new
   pub refused : IfErr result (IsFull new)
+
+-- a row has no run to merge: fewer than four tables of each level
+abbrev pub IsMergedOut : View → Row → Type 0
+IsMergedOut forest row = (level : ℕ) → count_at level (tables_by forest.sealed.tables (kind_of row)) < 4
+
+-- what a publish and a compaction are for: nothing waits, and no row has a run to merge
+abbrev pub IsDone : Command → View → Type 0
+IsDone publish forest = forest.waiting ≡ 0
+IsDone compact forest = (row : Row) → IsMergedOut forest row
+IsDone command forest = Unit {0}
+
+-- a command did what it is for, or that the registry is full was printed
+abbrev pub IsDoneOrFull : {X : Type 0} → Command → View → Option (List ℕ) → Option (List ℕ) → Result X RunFault → Type 0
+IsDoneOrFull command forest before after result = OnOk result (Appends before after (refusal_line refusal.RegistryFull) ⊎ IsDone command forest)
 
 -- what a fault of commands says that are run over a store of their own: memory may be refused before the first of them
 abbrev pub StopsServing : List Command → Option (List ℕ) → Option (List ℕ) → RunFault → Type 0

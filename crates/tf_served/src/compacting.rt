@@ -1,9 +1,14 @@
 //! Merges of a store's sealed tables, until no row has a run to merge.
-ghost use Rattle.std.specs.Prelude.{◌≡◌, ◌⊎◌, ◌+◌, ◌<◌, Ok, Err, Some, IfErr, IfOk, IsTrue, OnOk};
+ghost use Rattle.std.specs.Prelude.{◌≡◌, ◌≢◌, ◌⊎◌, ◌+◌, ◌<◌, false, None, Ok, Err, Some, IfErr, IfOk, IsTrue, OnOk};
 ghost use Rattle.std.specs.Result.{is_ok};
-ghost use Rattle.tf_manifest.specs.Jobs.{IsPickedFrom, StandsIn};
+ghost use Rattle.tf_manifest.specs.declared.kind.Kind.{Kind};
+ghost use Rattle.tf_manifest.specs.declared.row.Row.{Row};
+ghost use Rattle.tf_manifest.specs.Jobs.{IsPickedFrom, StandsIn, kind_of_merged};
+ghost use Rattle.tf_manifest.specs.View.{tables_by};
+ghost use Rattle.tf_publish.specs.Tables.{KeepsOthers};
 ghost use Rattle.tf_registry.specs.Install.{OnStale};
-ghost use Rattle.tf_served.specs.Served.{IsCompacted};
+ghost use Rattle.tf_rows.specs.Parts.{place_of};
+ghost use Rattle.tf_served.specs.Served.{IsCompacted, IsMergedOut};
 
 use std::alloc::{AllocError, Allocator};
 use std::sync::Wait;
@@ -25,7 +30,8 @@ enum NoJob {
 
 /// The job that a row gave.
 fn found<J: Drop>(answer: Result<Option<J>, AllocError>) -> Result<J, NoJob>
-    ensures { IfOk result (λ job. answer ≡ Ok (Some job)) }
+    ensures job { IfOk result (λ job. answer ≡ Ok (Some job)) }
+    ensures none { IfErr result (λ why. why ≡ NoJob.NoRun → answer ≡ Ok None) }
 {
     match answer {
         Ok(Some(job)) => Ok(job),
@@ -61,6 +67,7 @@ where
     C: StoredCopies + Drop,
     requires { StandsIn store.old.forest.sealed.tables merged }
     ensures compacted { IsCompacted store.old.forest store.new.forest result }
+    ensures others { (other : Kind) → other ≢ kind_of_merged merged → tables_by store.new.forest.sealed.tables other ≡ tables_by store.old.forest.sealed.tables other }
     ensures pushed { OnOk result (store.new.forest.sealed.tables.pushed.count ≡ store.old.forest.sealed.tables.pushed.count + 1) }
     ensures room { OnOk result (store.old.forest.sealed.tables.pushed.count < store.old.forest.sealed.tables.pushed.limit) }
 {
@@ -82,6 +89,7 @@ where
     C: StoredCopies + Drop,
     requires { IsPickedFrom store.old.forest.sealed.tables row job.now }
     ensures compacted { IsCompacted store.old.forest store.new.forest result }
+    ensures others { KeepsOthers row store.old.forest.sealed.tables store.new.forest.sealed.tables }
     ensures pushed { OnOk result (store.new.forest.sealed.tables.pushed.count ≡ store.old.forest.sealed.tables.pushed.count + 1) }
     ensures room { OnOk result (store.old.forest.sealed.tables.pushed.count < store.old.forest.sealed.tables.pushed.limit) }
 {
@@ -104,6 +112,8 @@ where
     S: StoreName,
     C: StoredCopies + Drop,
     ensures compacted { IsCompacted store.old.forest store.new.forest result }
+    ensures others { KeepsOthers row store.old.forest.sealed.tables store.new.forest.sealed.tables }
+    ensures last { IfOk result (λ merged. merged ≡ false → IsMergedOut store.new.forest row) }
     ensures pushed { IfOk result (λ merged. IsTrue merged → store.new.forest.sealed.tables.pushed.count ≡ store.old.forest.sealed.tables.pushed.count + 1) }
     ensures room { IfOk result (λ merged. IsTrue merged → store.old.forest.sealed.tables.pushed.count < store.old.forest.sealed.tables.pushed.limit) }
 {
@@ -132,10 +142,20 @@ where
     A: Allocator + Copy,
     S: StoreName,
     C: StoredCopies + Drop,
-    ensures { IsCompacted store.old.forest store.new.forest result }
+    ensures compacted { IsCompacted store.old.forest store.new.forest result }
+    ensures others { KeepsOthers row store.old.forest.sealed.tables store.new.forest.sealed.tables }
+    ensures merged { OnOk result (IsMergedOut store.new.forest row) }
 {
     while merge_next(rt, alloc, store, row)? {}
     Ok(())
+}
+
+/// The row of this number.
+fn row_at(number: usize) -> Row
+    requires { number < 21 }
+    ensures { place_of result ≡ number }
+{
+    Row::ALL[number]
 }
 
 /// Merges the runs of all rows until none has one.
@@ -149,9 +169,11 @@ where
     A: Allocator + Copy,
     S: StoreName,
     C: StoredCopies + Drop,
-    ensures { IsCompacted store.old.forest store.new.forest result }
+    ensures compacted { IsCompacted store.old.forest store.new.forest result }
+    ensures merged { OnOk result ((row : Row) → IsMergedOut store.new.forest row) }
 {
-    for row in Row::ALL {
+    for number in 0..Row::ALL.len() {
+        let row = row_at(number);
         compact_row(rt, alloc, store, row)?;
     }
     Ok(())
@@ -172,7 +194,8 @@ where
     A: Allocator + Copy,
     S: StoreName,
     C: VersionCopies<Version<A, S>, S> + Drop,
-    ensures { IsCompacted store.old.forest store.new.forest result }
+    ensures compacted { IsCompacted store.old.forest store.new.forest result }
+    ensures merged { OnOk result ((row : Row) → IsMergedOut store.new.forest row) }
 {
     match compact_rows(rt, alloc, store) {
         Ok(()) => store.show_merged(),

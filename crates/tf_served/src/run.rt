@@ -4,7 +4,7 @@ ghost use Rattle.tf_journal.specs.Lawful.{IsLawfulAt};
 ghost use Rattle.tf_main.specs.Script.{HasAnswered, StopsRunning};
 ghost use Rattle.tf_script.specs.Command as command;
 ghost use Rattle.tf_script.specs.CommandViews.{command_view, commands_of};
-ghost use Rattle.tf_served.specs.Served.{IsCommandServed};
+ghost use Rattle.tf_served.specs.Served.{IsCommandServed, IsDoneOrFull};
 
 use crate::served::Served;
 use std::alloc::Allocator;
@@ -56,7 +56,8 @@ where
         out: &mut O,
     ) -> Result<(), RunFault>
         requires { IsLawfulAt self.old.store.now.forest.clock self.old.store.now.forest.journal }
-        ensures { IsCommandServed self.old.store.now.forest self.new.store.now.forest
+        ensures done { IsDoneOrFull (command_view command.now) self.new.store.now.forest (O.contents out.old) (O.contents out.new) result }
+        ensures run { IsCommandServed self.old.store.now.forest self.new.store.now.forest
             (O.contents out.old) (O.contents out.new) (command_view command.now) result }
     {
         match command {

@@ -1,13 +1,14 @@
 //! A store as what a script is run by.
-ghost use Rattle.std.specs.Prelude.{◌≡◌, ◌≤◌, IfOk};
+ghost use Rattle.std.specs.Prelude.{◌≡◌, ◌≤◌, IfOk, OnOk};
 ghost use Rattle.tf_events.specs.Batch.{IsBatchRun};
 ghost use Rattle.tf_events.specs.Chain as kind;
 ghost use Rattle.tf_journal.specs.Answer.{account_transfers_of, found_accounts_of, found_transfers_of, history_of, looked_up_accounts, looked_up_transfers};
+ghost use Rattle.tf_manifest.specs.declared.row.Row.{Row};
 ghost use Rattle.tf_pending.specs.Pulse.{IsPulseRun};
 ghost use Rattle.tf_rows.specs.Counts.{AreBounded};
 ghost use Rattle.tf_script.specs.Command as command;
 ghost use Rattle.tf_script.specs.declared.command.Query.TheVariants.{AccountTransfers, AccountBalances, Accounts, Transfers};
-ghost use Rattle.tf_served.specs.Served.{IsRead, Serves};
+ghost use Rattle.tf_served.specs.Served.{IsMergedOut, IsRead, Serves};
 
 use crate::compacting::compact;
 use std::alloc::Allocator;
@@ -92,7 +93,8 @@ where
 
     /// Publishes, and gives the receipts.
     fn receipts(&mut self) -> Result<Vec<Receipt<A, S>, A>, Refusal>
-        ensures { IsRead self.old.store.now.forest self.new.store.now.forest result }
+        ensures all { OnOk result (self.new.store.now.forest.waiting ≡ 0) }
+        ensures read { IsRead self.old.store.now.forest self.new.store.now.forest result }
     {
         self.facts();
         self.store.publish(self.rt)
@@ -100,7 +102,8 @@ where
 
     /// Publishes. Nobody asks for the receipts.
     fn seal(&mut self) -> Result<(), Refusal>
-        ensures { IsRead self.old.store.now.forest self.new.store.now.forest result }
+        ensures all { OnOk result (self.new.store.now.forest.waiting ≡ 0) }
+        ensures read { IsRead self.old.store.now.forest self.new.store.now.forest result }
     {
         match self.receipts() {
             Ok(_receipts) => Ok(()),
@@ -158,7 +161,8 @@ where
 
     /// Seals what was stored since the last publish.
     pub(crate) fn publish(&mut self) -> Result<(), Refusal>
-        ensures { Serves self.old.store.now.forest self.new.store.now.forest command.publish result }
+        ensures all { OnOk result (self.new.store.now.forest.waiting ≡ 0) }
+        ensures served { Serves self.old.store.now.forest self.new.store.now.forest command.publish result }
     {
         match self.seal() {
             Ok(()) => Ok(()),
@@ -168,7 +172,8 @@ where
 
     /// Merges sealed tables until no row has a run to merge, and gives back those that were merged.
     pub(crate) fn compact(&mut self) -> Result<(), Refusal>
-        ensures { Serves self.old.store.now.forest self.new.store.now.forest command.compact result }
+        ensures merged { OnOk result ((row : Row) → IsMergedOut self.new.store.now.forest row) }
+        ensures served { Serves self.old.store.now.forest self.new.store.now.forest command.compact result }
     {
         let store = &mut *self.store;
         let outcome = compact(self.rt, self.alloc, store);

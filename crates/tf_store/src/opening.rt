@@ -4,6 +4,7 @@ ghost use Rattle.std.specs.List.{All};
 ghost use Rattle.tf_manifest.specs.Registries.{AreShelves};
 ghost use Rattle.tf_rows.specs.Counts.{nothing_sealed};
 ghost use Rattle.tf_rows.specs.Nest.{AreEmpty};
+ghost use Rattle.tf_publish.specs.Tables.{nothing_fresh};
 ghost use Rattle.tf_readers.specs.Reader.{HasSeen};
 ghost use Rattle.tf_store.specs.Public.{nothing_public};
 
@@ -60,6 +61,7 @@ where
     requires sealed { (limit : ℕ) × (R.sealed rows ≡ nothing_sealed limit) }
     requires names { (book.total ≡ 0) × (public ≡ nothing_public) }
     ensures empty { (result.forest.journal ≡ []) × (result.forest.clock ≡ 0) × (result.waiting ≡ []) }
+    ensures fresh { (result.forest.fresh ≡ nothing_fresh) × (result.forest.needed ≡ 0) × (result.forest.waiting ≡ 0) }
     ensures readable { result.readable ≡ [] }
     ensures sealed { result.forest.sealed ≡ R.sealed rows }
 {
@@ -137,6 +139,7 @@ where
     requires refusal { IfErr begun (λ refusal. refusal ≡ Refusal.NoMemory) }
     requires registries { AreShelves S.shelf registries.now }
     ensures empty { IfOk result (λ r. (r.0.forest.journal ≡ []) × (r.0.forest.clock ≡ 0) × (r.0.waiting ≡ [])) }
+    ensures fresh { IfOk result (λ r. (r.0.forest.fresh ≡ nothing_fresh) × (r.0.forest.needed ≡ 0) × (r.0.forest.waiting ≡ 0)) }
     ensures readable { IfOk result (λ r. r.0.readable ≡ []) }
     ensures sealed { IfOk result (λ r. r.0.forest.sealed ≡ nothing_sealed registries.now.limit) }
     ensures shares { IfOk result (λ r. (vec_len r.1 ≡ count) × All (λ s. s ≡ 0) r.1.items) }
@@ -176,6 +179,7 @@ where
         requires history { blank.history ≡ S.history }
         requires registries { AreShelves S.shelf registries.now }
         ensures empty { IfOk result (λ r. (r.0.forest.journal ≡ []) × (r.0.forest.clock ≡ 0) × (r.0.waiting ≡ [])) }
+        ensures fresh { IfOk result (λ r. (r.0.forest.fresh ≡ nothing_fresh) × (r.0.forest.needed ≡ 0) × (r.0.forest.waiting ≡ 0)) }
         ensures readable { IfOk result (λ r. r.0.readable ≡ []) }
         ensures sealed { IfOk result (λ r. r.0.forest.sealed ≡ nothing_sealed registries.now.limit) }
         ensures shares { IfOk result (λ r. (vec_len r.1 ≡ shares) × All (λ s. s ≡ 0) r.1.items) }

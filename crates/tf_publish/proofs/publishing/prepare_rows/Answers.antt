@@ -1,6 +1,11 @@
-use Rattle.std.proofs.Common.{◌∙◌, sym, arith}
-use Rattle.tf_rows.specs.Parts.{Entries}
-use Rattle.tf_publish.specs.Publish.{tables_needed}
+use Rattle.std.proofs.Common.{◌≡◌, ◌+◌, ◌∙◌, sym, ap, subst, arith}
+use Rattle.tf_table.specs.declared.key.Key.{Key}
+use Rattle.tf_manifest.specs.declared.row.Row.{Row}
+use Rattle.tf_manifest.specs.View.{content_in}
+use Rattle.tf_rows.specs.Counts.{Counted, IsReady, counted}
+use Rattle.tf_rows.specs.Parts.{Entries, parts_of, value_of_part}
+use Rattle.tf_publish.specs.Publish.{entries_waiting, tables_needed}
+use Rattle.tf_publish.specs.Tables.{Publishes}
 use Rattle.tf_publish.proofs.Bounds.{nothing_lost}
 use Rattle.tf_publish.proofs.Partly.{nothing_counted}
 use Rattle.tf_publish.proofs.PublishRows.{needless_where_none, none_where_needless}
@@ -62,3 +67,28 @@ returns-in-Err-push_onto-clause-still g c = λ none.
     let is = c.tables_needed.ensures in
     let some = c.if-tables_needed-eq0.false in
     absurd (omega (arith, needless, is, some))
+
+pub returns-in-Ok-push_onto-clause-content : goal.returns-in-Ok-push_onto-clause-content
+returns-in-Ok-push_onto-clause-content g c =
+    let fresh : Entries = g.F.MutableRows.entries c.args.rows.now.fresh in
+    subst (λ (p : Counted). (r : Row) (key : Key) → content_in p.tables r key ≡ value_of_part (parts_of fresh c.args.rows.now.published.tables r) key) (sym c.new.ensures) c.in-Ok-push_onto.ensures.content
+
+pub returns-in-Ok-push_onto-clause-publishes : goal.returns-in-Ok-push_onto-clause-publishes
+returns-in-Ok-push_onto-clause-publishes g c =
+    let fresh : Entries = g.F.MutableRows.entries c.args.rows.now.fresh in
+    subst (λ (p : Counted). Publishes fresh (counted c.args.rows.now.published) p) (sym c.new.ensures) c.in-Ok-push_onto.ensures.publishes
+
+pub returns-in-Ok-push_onto-clause-count : goal.returns-in-Ok-push_onto-clause-count
+returns-in-Ok-push_onto-clause-count g c = ap (λ (p : Counted). p.tables.pushed.count) c.new.ensures ∙ c.in-Ok-push_onto.ensures.count
+
+pub returns-in-Ok-push_onto-clause-sealed : goal.returns-in-Ok-push_onto-clause-sealed
+returns-in-Ok-push_onto-clause-sealed g c = ap (λ (p : Counted). p.sealed) c.new.ensures ∙ c.in-Ok-push_onto.ensures.sealed
+
+pub returns-in-Ok-push_onto-clause-ready : goal.returns-in-Ok-push_onto-clause-ready
+returns-in-Ok-push_onto-clause-ready g c = subst (λ (p : Counted). IsReady c.push_onto.new.rows.published p) (sym c.new.ensures) c.in-Ok-push_onto.ensures.ready
+
+pub returns-in-Ok-push_onto-clause-parts : goal.returns-in-Ok-push_onto-clause-parts
+returns-in-Ok-push_onto-clause-parts g c = record { copy = c.push_onto.new.next; parts = c.push_onto.ensures.parts; is = c.push_onto.ensures.counts }
+
+pub returns-in-Err-push_onto-clause-parts : goal.returns-in-Err-push_onto-clause-parts
+returns-in-Err-push_onto-clause-parts g c = record { copy = c.push_onto.new.next; parts = c.push_onto.ensures.parts; is = c.push_onto.ensures.counts }

@@ -93,4 +93,4 @@ returns-in-Ok-make_room-clause-part g c =
     (row_published {A = g.row.A.Denot} fresh c.args.row old.tables mid.tables new.tables c.in-Ok.sealed c.in-Ok.ensures.sealed c.in-Ok-make_room.ensures.room pushes some).count)
     c.push_in_front.ensures.pushes c.push_in_front.ensures.held)
     c.push_in_front.ensures.err
-    (part_by_place fresh c.args.row old mid c.in-Ok-make_room.ensures.place c.in-Ok-make_room.ensures.room.count)
+    (part_by_place fresh c.args.row old mid some c.in-Ok-make_room.ensures.place c.in-Ok-make_room.ensures.room.count)

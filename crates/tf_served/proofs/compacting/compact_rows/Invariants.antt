@@ -1,5 +1,11 @@
-use Rattle.tf_served.specs.Served.{Stays}
+use Rattle.std.proofs.Common.{◌<◌}
+use Rattle.tf_manifest.specs.declared.row.Row.{Row}
+use Rattle.tf_rows.specs.Parts.{place_of}
+use Rattle.tf_served.specs.Served.{IsMergedOut, Stays}
 use Rattle.tf_served.proofs.compacting.compact_rows.Given as goal
 
-abbrev pub invariant-loop-row : goal.invariant-loop-row
-invariant-loop-row g l = Stays l.initial.store.forest l.store.forest
+abbrev pub invariant-loop-number : goal.invariant-loop-number
+invariant-loop-number g l = record {
+  stays : Stays l.initial.store.forest l.store.forest;
+  merged : (row : Row) → place_of row < l.number → IsMergedOut l.store.forest row;
+}

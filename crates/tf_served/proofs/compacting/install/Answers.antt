@@ -1,4 +1,4 @@
-use Rattle.tf_served.proofs.Merging.{answered_as, install_answered, install_pushed, never_stale}
+use Rattle.tf_served.proofs.Merging.{answered_as, install_answered, install_pushed, never_stale, others_left_by}
 use Rattle.tf_served.proofs.compacting.install.Goals as goal
 
 pub installed-requires : goal.installed-requires
@@ -17,3 +17,6 @@ returns-clause-pushed g c =
 
 pub returns-clause-room : goal.returns-clause-room
 returns-clause-room g c = answered_as c.installed.result c.install.result _ c.installed.ensures.same c.install.ensures.room
+
+pub returns-clause-others : goal.returns-clause-others
+returns-clause-others g c = others_left_by c.args.store.now c.install.new.self c.args.merged c.install.result c.install.ensures.installs c.install.ensures.err

@@ -21,7 +21,7 @@ loop-command-preserved g c =
     (has_run_more true journal_of clock_of publishes_of c.loop-command.self.store.now.forest c.run_command.new.self.store.now.forest
     (map command_view (take c.loop-command.command-index c.args.commands.now)) (command_view c.command-item.result)
     (g.O.Write.contents c.args.out.now) (g.O.Write.contents c.loop-command.out) (g.O.Write.contents c.run_command.new.out) c.in_ok-run_command.field-0
-    c.loop-command.invariant c.in_ok-run_command.ensures)
+    c.loop-command.invariant c.in_ok-run_command.ensures.run)
 
 pub returns-in_err-run_command-clause-fault : goal.returns-in_err-run_command-clause-fault
 returns-in_err-run_command-clause-fault g c =
@@ -29,4 +29,4 @@ returns-in_err-run_command-clause-fault g c =
     rw (p.1, p.2)
     (stops_running true journal_of clock_of publishes_of command_view c.args.commands.now c.loop-command.command-index c.command-item.result c.loop-command-test.true c.command-item.is
     c.loop-command.self.store.now.forest c.run_command.new.self.store.now.forest _ (g.O.Write.contents c.loop-command.out) _ c.in_err-run_command.field-0.0
-    c.loop-command.invariant c.in_err-run_command.ensures)
+    c.loop-command.invariant c.in_err-run_command.ensures.run)

@@ -3,8 +3,8 @@ use Rattle.tf_script.specs.Command.{publish}
 use Rattle.tf_served.proofs.Serving.{read_answered, read_refused}
 use Rattle.tf_served.proofs.served.Served+Forest+Rows+T+A+S+A+A+S+C+W.publish.Goals as goal
 
-pub returns-in-Ok : goal.returns-in-Ok
-returns-in-Ok g c = read_answered _ _ publish _ _ refl refl c.in-Ok.ensures tt
+pub returns-in-Ok-clause-served : goal.returns-in-Ok-clause-served
+returns-in-Ok-clause-served g c = read_answered _ _ publish _ _ refl refl c.in-Ok.ensures.read tt
 
-pub returns-in-Err : goal.returns-in-Err
-returns-in-Err g c = read_refused _ _ publish c.in-Err.refusal refl refl refl c.in-Err.ensures
+pub returns-in-Err-clause-served : goal.returns-in-Err-clause-served
+returns-in-Err-clause-served g c = read_refused _ _ publish c.in-Err.refusal refl refl refl c.in-Err.ensures.read
