@@ -37,6 +37,16 @@ cut_cases Less n l e g h = omega arith
 cut_cases Equal n l e g h = omega arith
 cut_cases Greater n l e g h = omega arith
 
+-- a list to which one is pushed has one
+pub some_pushed : {X : Type 0} (xs : List X) (x : X) → xs ++ x ∷ [] ≡ [] → ⊥
+some_pushed xs x e = let n : length xs + 1 ≡ 0 = sym (length-append xs (x ∷ [])) ∙ ap length e in omega (arith, n)
+
+-- and so has one in which an element is set
+pub some_put : {X : Type 0} (xs : List X) (i : ℕ) (x : X) → i < length xs → set xs i x ≡ [] → ⊥
+some_put [] i x l e = omega (arith, l)
+some_put (y ∷ xs) zero x l e = let n : length (x ∷ xs) ≡ 0 = ap length e in omega (arith, n)
+some_put (y ∷ xs) (suc i) x l e = let n : length (y ∷ set xs i x) ≡ 0 = ap length e in omega (arith, n)
+
 -- a list round one of its elements
 pub round : {X : Type 0} (xs : List X) (i : ℕ) (d : X) → i < length xs → xs ≡ take i xs ++ get_or xs i d ∷ drop (i + 1) xs
 round xs i d l = sym (take-append-drop i xs) ∙ ap (λ ys. take i xs ++ ys) (drop_more xs i d l)

@@ -14,10 +14,11 @@ in_order rows = overlaid key_cmp rows []
 abbrev pub rows_of_key : {E : Type 0} → Key → List (Key × E) → List (Key × E)
 rows_of_key key rows = filter (λ r. is_eq (key_cmp r.0 key)) rows
 
--- no key comes twice, and the keys rise where they are said to
+-- no key comes twice, the keys rise where they are said to, and that is said where there are none
 pub record IsLogged {E : Type 0} (rises : Bool) (rows : List (Key × E)) : Type 0 where
   pub once : (key : Key) → length (rows_of_key key rows) ≤ 1
   pub rising : rises ≡ true → IsRising key_cmp rows
+  pub none : rows ≡ [] → rises ≡ true
 
 -- the rows with the entry that a key had before, or without the key where it had none
 abbrev pub given_back : {E : Type 0} → Key → Option E → List (Key × E) → List (Key × E)

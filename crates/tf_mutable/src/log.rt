@@ -16,7 +16,8 @@ use tf_table::{Draft, Key, Repeats, Sealed};
 
 /// Rows in the order in which they came. Each key comes once.
 ///
-/// A row is pushed at the end, and the room doubles where it is full; `clear` keeps it. While the keys rise, a row is
+/// A row is pushed at the end, and the room doubles where it is full; `clear` keeps it. While the keys rise, as they do from where there
+/// is none on, a row is
 /// found in a number of steps that grows with the logarithm of the rows, and so is the first key above another; else a row
 /// by a walk from the newest one back, and the first key above another by a walk over all. To take the newest row back
 /// moves no other. The first seal of rows that don't rise sorts them, with room for as many rows at most beside them, and
@@ -108,6 +109,7 @@ impl<V: Repeats, A: Allocator + Clone> MutableTable<V, A> for Log<V, A> {
         match before {
             None => {
                 let _ = self.rows.remove(place);
+                self.rises = still_rises(self.rises, &self.rows);
             }
             Some(entry) => self.rows[place] = (*key, entry),
         }
@@ -196,6 +198,15 @@ fn ends_below<V>(rows: &[(Key, Option<V>)], key: &Key) -> bool
         Some(last) => last.0.cmp(key).is_lt(),
         None => true,
     }
+}
+
+/// Whether the keys of rows, of which one was taken away, are known to rise: where they were before, and where no row is left.
+fn still_rises<V>(rises: bool, rows: &[(Key, Option<V>)]) -> bool
+    requires { IsTrue rises → IsRising key_cmp rows.now }
+    ensures rising { IsTrue result → IsRising key_cmp rows.now }
+    ensures none { rows.now ≡ [] → IsTrue result }
+{
+    rises || rows.is_empty()
 }
 
 /// Puts rows in key order, if there is memory to do so. Up to 20 of them need none.

@@ -1,5 +1,5 @@
 //! Readers.
-ghost use Rattle.std.specs.Prelude.{◌≡◌, true, false, take, IfNone, IfSome};
+ghost use Rattle.std.specs.Prelude.{◌≡◌, ◌<◌, Ok, true, false, length, take, IfNone, IfOk, IfSome};
 ghost use mathlib.Core.List.{IsPrefix};
 ghost use Rattle.tf_history.specs.Beginning.{OneBegins, longer};
 ghost use Rattle.tf_journal.specs.Lawful.{IsLawful};
@@ -8,7 +8,7 @@ ghost use Rattle.tf_readers.specs.Reader.{HasSeen};
 use crate::publishable::{Publishable, again};
 use crate::published::Published;
 use left_right::ReadHandle;
-use std::alloc::Allocator;
+use std::alloc::{AllocError, Allocator};
 use std::marker::Model;
 use tf_history::{Beginning, Front, HistoryName};
 
@@ -59,16 +59,7 @@ impl<V: Publishable + Drop, A: Allocator, S: HistoryName> Reader<V, A, S> {
         ensures held { self.new.held ≡ self.old.held }
         ensures none { IfNone result (self.new ≡ self.old) }
     {
-        let page = self.copies.enter()?;
-        let Ok(version) = again(page.version()) else {
-            return None;
-        };
-        if !self.known.reach(page.front()) {
-            return None;
-        }
-        // Only the length of a front tells that its journal is lawful.
-        let _length = page.front().len();
-        Some(version)
+        entered_version(&mut self.copies, &mut self.known)
     }
 
     /// Brings the version that this reader holds up to date. It is then the one that was published last, no older than all that
@@ -112,4 +103,51 @@ impl<V: Publishable + Drop, A: Allocator, S: HistoryName> Reader<V, A, S> {
     {
         self.known.learn(front, count);
     }
+}
+
+/// The version of the page that is entered, unless that is older than what is known. What a reader holds isn't seen here.
+fn entered_version<V: Publishable + Drop, A: Allocator, S: HistoryName>(
+    copies: &mut ReadHandle<Published<V, S>, A>,
+    known: &mut Beginning<S>,
+) -> Option<V>
+    ensures lawful { IfSome result (λ version. IsLawful (V.journal version)) }
+    ensures given { IfSome result (λ version. (known.new ≡ V.journal version) × IsPrefix known.old known.new) }
+    ensures none { IfNone result (known.new ≡ known.old) }
+{
+    let page = copies.enter()?;
+    // Only the length of a front tells that its journal is lawful.
+    let _length = page.front().len();
+    accepted(known, page.front(), again(page.version()))
+}
+
+/// The page that is entered, unless that is older than what is known. What a reader holds isn't seen here.
+fn entered_page<V: Publishable + Drop, A: Allocator, S: HistoryName>(
+    copies: &mut ReadHandle<Published<V, S>, A>,
+    known: &mut Beginning<S>,
+) -> Option<Published<V, S>>
+    ensures given { IfSome result (λ page. (known.new ≡ page) × IsPrefix known.old known.new) }
+    ensures none { IfNone result (known.new ≡ known.old) }
+{
+    let page = copies.enter()?;
+    accepted(known, page.front(), page.again())
+}
+
+/// A copy of what is shown at a front, which is known then. None, and nothing is changed, where there is no copy, or more is known
+/// than the front has, and only there.
+fn accepted<P: Drop, S: HistoryName>(
+    known: &mut Beginning<S>,
+    front: &Front<S>,
+    copy: Result<P, AllocError>,
+) -> Option<P>
+    ensures given { IfSome result (λ given. (copy ≡ Ok given) × (known.new ≡ front.now) × IsPrefix known.old front.now) }
+    ensures same { IfNone result (known.new ≡ known.old) }
+    ensures none { IfNone result (IfOk copy (λ given. length front.now < length known.old)) }
+{
+    let Ok(copy) = copy else {
+        return None;
+    };
+    if !known.reach(front) {
+        return None;
+    }
+    Some(copy)
 }

@@ -1,7 +1,7 @@
 -- Accounts that are held, after one of them is put in, changed or dropped.
-use Rattle.std.proofs.Common.{◌≡◌, ◌≢◌, ℕ, List, Option, Some, None, Result, Ok, Err, OnOk, OnErr, Bool, true, false, cond, refl, ap, sym, ◌∙◌}
+use Rattle.std.proofs.Common.{◌≡◌, ◌≢◌, ◌⊎◌, ℕ, ◌+◌, ◌<◌, ◌≤◌, List, length, Option, Some, None, Result, Ok, Err, OnOk, OnErr, Bool, true, false, cond, inl, inr, refl, ap, sym, ◌∙◌, arith}
 use Rattle.std.specs.Prelude.{◌==◌, if◌then◌else◌}
-use Rattle.std.specs.Option.{option_and_then, option_map}
+use Rattle.std.specs.Option.{is_some, option_and_then, option_map}
 use Rattle.std.specs.Ordering.{is_eq, is_gt, is_lt, nat_cmp}
 use Rattle.std.specs.declared.cmp.Ordering.{Ordering}
 use Rattle.std.specs.declared.cmp.Ordering.TheVariants.{Less, Equal, Greater}
@@ -9,7 +9,8 @@ use Rattle.std.proofs.lemmas.Bool.{eq-eqb, ne_eqb}
 use Rattle.std.proofs.lemmas.Cmp.{nat_cmp_total, tied_itself}
 use Rattle.std.proofs.lemmas.Map.Lookups.{exact_unsigned}
 use Rattle.std.proofs.lemmas.Option.{none-some, same_Some}
-use Rattle.tf_sorted.specs.Rows.{rows_above, rows_below, value_at, with_row, without_row}
+use Rattle.tf_sorted.specs.Rows.{IsRising, rows_above, rows_below, value_at, with_row, without_row}
+use Rattle.tf_btree.proofs.Order.{length-with_row, length-without_row}
 use Rattle.tf_table.specs.Content.{first_some}
 use Rattle.tf_table.proofs.Determined.{bool_cases, first_some-none, value_at-filter, value_at-with_row}
 use Rattle.tf_table.proofs.Rising.{equal_from, value_at-append}
@@ -107,3 +108,28 @@ module _ (accounts : Accounts) (held now : Held) (among : AreAmong accounts held
         → OnOk result (now ≡ with_row nat_cmp former.id (with_state_back s p) held) → OnErr result (held_at former.id held ≡ None) → AreAmong (without_change former accounts) now
     restore_tried (Ok x) s p state there ok absent = restored s p state there ok
     restore_tried (Err y) s p state there ok absent = absurd (none-some p (sym absent ∙ there))
+
+-- no more are held than may be, once an account is put in that was held already or has a place
+pub put_within : (held now : Held) (most at : ℕ) (p : Party) {X Y : Type 0} (result : Result X Y) → IsRising nat_cmp held → length held ≤ most → OnOk result (now ≡ with_row nat_cmp at p held) → OnErr result (now ≡ held) → (length held < most) ⊎ (is_some (held_at at held) ≡ true) → length now ≤ most
+put_within held now most at p (Ok x) rising within ok err place =
+    let count : length now ≡ length held + cond (is_some (held_at at held)) 0 1 = ap length ok ∙ length-with_row nat_cmp nat_cmp_total at p held rising in
+    elim place [
+      | inl room ↦ grown (is_some (held_at at held)) (length held) (length now) count room
+      | inr there ↦ kept (is_some (held_at at held)) (length held) (length now) count there within
+    ] where
+      grown : (b : Bool) (n m : ℕ) → m ≡ n + cond b 0 1 → n < most → m ≤ most
+      grown true n m e h = omega (arith, e, h)
+      grown false n m e h = omega (arith, e, h)
+
+      kept : (b : Bool) (n m : ℕ) → m ≡ n + cond b 0 1 → b ≡ true → n ≤ most → m ≤ most
+      kept true n m e t h = omega (arith, e, h)
+      kept false n m e t h = absurd (let u : false ≡ true = t in cc)
+put_within held now most at p (Err y) rising within ok err place = omega (arith, within, ap length err)
+
+-- nor once one is dropped
+pub drop_within : (held now : Held) (most at : ℕ) → IsRising nat_cmp held → length held ≤ most → now ≡ without_row nat_cmp at held → length now ≤ most
+drop_within held now most at rising within is =
+    fewer (is_some (held_at at held)) (length held) (length now) (ap (λ (n : ℕ). n + cond (is_some (held_at at held)) 1 0) (ap length is) ∙ length-without_row nat_cmp nat_cmp_total at held rising) within where
+      fewer : (b : Bool) (n m : ℕ) → m + cond b 1 0 ≡ n → n ≤ most → m ≤ most
+      fewer true n m e h = omega (arith, e, h)
+      fewer false n m e h = omega (arith, e, h)

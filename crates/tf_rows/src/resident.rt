@@ -30,12 +30,14 @@ pub struct Resident<A: Allocator> {
 }
 
 impl<A: Allocator> Model for Resident<A> {
-    ghost use Rattle.std.specs.Prelude.{List, ℕ};
+    ghost use Rattle.std.specs.Prelude.{◌≤◌, List, ℕ, length};
     ghost use Rattle.tf_rows.specs.declared.found.Party.{Party};
 
     ghost Value = { List (ℕ × Party) };
 
     ghost view = { λ r. r.accounts };
+
+    ghost invariant = { λ r. length r.accounts ≤ 65536 };
 }
 
 impl<A: Allocator + Clone> Resident<A> {
@@ -60,7 +62,7 @@ impl<A: Allocator + Clone> Resident<A> {
     fn put(&mut self, party: Party)
         ensures { (accounts : Accounts) → AreAmong accounts self.old → AreAmong (with_party party accounts) self.new }
     {
-        if self.accounts.len() >= MOST && self.accounts.get(&party.account.id).is_none() {
+        if self.accounts.len() >= MOST && self.get(party.account.id).is_none() {
             return;
         }
         let _ = self.accounts.insert(party.account.id, party);
@@ -78,6 +80,8 @@ impl<A: Allocator + Clone> Resident<A> {
     fn restore(&mut self, former: &Former)
         ensures { (accounts : Accounts) → AreAmong accounts self.old → AreAmong (without_change former.now accounts) self.new }
     {
+        // Only the length call tells that the ids rise.
+        let _held = self.accounts.len();
         let Some(state) = former.state else {
             let _ = self.accounts.remove(&former.id);
             return;

@@ -1,4 +1,4 @@
-use Rattle.std.proofs.Common.{rules, Result, Ok, Err, OnOk, Option, None, true, sym, ◌∙◌}
+use Rattle.std.proofs.Common.{rules, Result, Ok, Err, OnOk, Option, None, true, refl, sym, ◌∙◌}
 use Rattle.std.specs.List.Sorted.{IsSortedBy, IsStableBy}
 use Rattle.std.proofs.lemmas.List.Sorted.{ranks_by, answers_always}
 use Rattle.tf_table.specs.declared.key.Key.{Key}
@@ -26,6 +26,7 @@ returns-clause-sorted g c =
     record {
       once = once;
       rising = λ _. rising-sorted key_cmp keys_total exact_keys new sorted once;
+      none = λ _. refl;
     }) c.sort_by.ensures.sorted
 
 pub returns-clause-same : goal.returns-clause-same

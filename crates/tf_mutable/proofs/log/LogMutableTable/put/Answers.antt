@@ -6,7 +6,7 @@ use Rattle.tf_table.specs.Content.{entry_at}
 use Rattle.tf_mutable.specs.Mutable.{in_order, IsLogged}
 use Rattle.tf_table.proofs.Keys.{keys_total, exact_keys}
 use Rattle.std.proofs.lemmas.Bool.{false≢true}
-use Rattle.tf_mutable.proofs.Logged.{value_at-in_order, once-push, in_order-push}
+use Rattle.tf_mutable.proofs.Logged.{value_at-in_order, once-push, in_order-push, some_pushed}
 use Rattle.tf_mutable.proofs.log.LogMutableTable.put.Goals as goal
 use Rattle.tf_mutable.proofs.log.LogMutableTable.put.Goals.{then-self, else-self}
 
@@ -22,6 +22,7 @@ invariant_of-self g c =
     subst (IsLogged c.if-self.rises) (sym c.in-Ok.ensures.items) (record {
       once = once-push key_cmp keys_total exact_keys rows c.args.key c.args.entry absent c.self.invariant.once;
       rising = rises;
+      none = λ e. absurd (some_pushed rows (c.args.key, c.args.entry) e);
     })
 
 pub returns-in-Ok-clause-rows : goal.returns-in-Ok-clause-rows

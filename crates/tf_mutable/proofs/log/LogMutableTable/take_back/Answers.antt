@@ -2,12 +2,12 @@ use Rattle.std.proofs.Common.{◌≡◌, List, Option, Some, None, IsSome, arith
 use Rattle.std.specs.List.{slice_get}
 use Rattle.std.specs.Option.{option_map, is_some}
 use Rattle.std.proofs.lemmas.Bool.{false≢true}
-use Rattle.tf_sorted.specs.Rows.{value_at}
+use Rattle.tf_sorted.specs.Rows.{IsRising, value_at}
 use Rattle.tf_table.specs.declared.key.Key.{Key}
 use Rattle.tf_table.specs.Key.{key_cmp}
 use Rattle.tf_mutable.specs.Mutable.{in_order, IsLogged, given_back}
 use Rattle.tf_table.proofs.Keys.{keys_total, exact_keys}
-use Rattle.tf_mutable.proofs.Logged.{value_at-in_order, found_within, once-removed, rising-removed, in_order-removed, once-put, rising-put, in_order-put, given_back-is}
+use Rattle.tf_mutable.proofs.Logged.{value_at-in_order, found_within, once-removed, rising-removed, in_order-removed, once-put, rising-put, in_order-put, given_back-is, some_put}
 use Rattle.tf_mutable.proofs.log.LogMutableTable.take_back.Goals as goal
 
 -- a key that is there has a place
@@ -34,10 +34,19 @@ invariant_of-self g c =
     let p = c.in-Some.place in
     let key = c.args.key.now in
     let found = subst (λ (rs : List (Key × Option g.row.V.Denot)). option_map (λ r. r.0) (slice_get rs p) ≡ Some key) c.deref.ensures.value c.in-Some.ensures.found in
-    subst (IsLogged c.self.inside.rises) (sym c.remove.ensures.by_index.2) (record {
+    subst (IsLogged c.still_rises-self-inside.result) (sym c.remove.ensures.by_index.2) (record {
       once = once-removed key_cmp keys_total exact_keys rows p key (key, None) found c.self.invariant.once;
-      rising = λ t. rising-removed key_cmp keys_total exact_keys rows p key (key, None) found c.self.invariant.once (c.self.invariant.rising t);
+      rising = λ t. subst (IsRising key_cmp) (c.deref-in-None.ensures.value ∙ c.remove.ensures.by_index.2) (c.still_rises-self-inside.ensures.rising t);
+      none = λ e. c.still_rises-self-inside.ensures.none (c.deref-in-None.ensures.value ∙ c.remove.ensures.by_index.2 ∙ e);
     })
+
+pub still_rises-self-inside-requires : goal.still_rises-self-inside-requires
+still_rises-self-inside-requires g c = λ t.
+    let rows = c.self.inside.rows.items in
+    let p = c.in-Some.place in
+    let key = c.args.key.now in
+    let found = subst (λ (rs : List (Key × Option g.row.V.Denot)). option_map (λ r. r.0) (slice_get rs p) ≡ Some key) c.deref.ensures.value c.in-Some.ensures.found in
+    subst (IsRising key_cmp) (sym (c.deref-in-None.ensures.value ∙ c.remove.ensures.by_index.2)) (rising-removed key_cmp keys_total exact_keys rows p key (key, None) found c.self.invariant.once (c.self.invariant.rising t))
 
 pub index_mut-requires : goal.index_mut-requires
 index_mut-requires g c =
@@ -54,6 +63,7 @@ invariant_of-self-in-Some-before g c =
     record {
       once = once-put key_cmp keys_total exact_keys rows p key (key, None) found c.self.invariant.once c.in-Some-before.entry;
       rising = λ t. rising-put key_cmp keys_total exact_keys rows p key (key, None) found c.self.invariant.once c.in-Some-before.entry (c.self.invariant.rising t);
+      none = λ e. absurd (some_put rows p (key, c.in-Some-before.entry) (found_within key_cmp keys_total exact_keys rows p key found) e);
     }
 
 pub returns-in-None-clause-rows : goal.returns-in-None-clause-rows
