@@ -16,10 +16,11 @@ use tf_forest_trials::{
     AMPLE, are_commands_alike, commands_at, lists_of_commands, refused_in_turn,
 };
 use tf_manifest::Registries;
+use tf_mutable_rows::MutableTables;
 use tf_publish::Rows;
 use tf_records::Refusal;
 use tf_registry::Naming;
-use tf_rows::{AllRows, EmptyRows, MutableRows, MutableTables};
+use tf_rows::{AllRows, EmptyRows, MutableRows};
 use tf_script::Command;
 use tf_trials::random::commands;
 

@@ -10,8 +10,8 @@ use std::sync::Wait;
 use std::test::Fail;
 use tf_forest_trials::{Course, Trial};
 use tf_manifest::Registries;
+use tf_mutable_rows::MutableTables;
 use tf_registry::Pushes;
-use tf_rows::MutableTables;
 use tf_version_trials::try_each;
 
 /// A course, with registries of its own.

@@ -23,7 +23,7 @@ use Rattle.tf_rows.specs.Parts.{Entries, seen_rows}
 use Rattle.tf_publish.specs.Publish.{MakesRoom, PublishesRow, needed_for}
 use Rattle.tf_rows.specs.SealedRow.{IsSealedOf, PushesIn, entries_of_sealed, kind_of_sealed}
 use Rattle.tf_rows.specs.declared.sealed_row.SealedRow.{SealedRow}
-use Rattle.tf_rows.proofs.Fresh.{apart_by, set_elsewhere, set_here, stamp_apart, unit_apart}
+use Rattle.tf_rows.proofs.Apart.{apart_by, set_elsewhere, set_here, stamp_apart, unit_apart}
 use Rattle.tf_rows.proofs.Parts.{value-seen}
 use Rattle.tf_publish.proofs.Measures.{installed_references, placed, pushed_references, pushed_with}
 use Rattle.tf_publish.proofs.Sealed.{found_sealed, same_in_front}

@@ -26,7 +26,7 @@ use Rattle.tf_rows.specs.SealedRow.{IsSealedOf, PushesIn, entries_of_sealed, kin
 use Rattle.tf_publish.specs.Publish.{entries_waiting, needed_for, tables_needed}
 use Rattle.tf_publish.specs.Tables.{AddsInFront, KeepsOthers, MakesPlaceIn, MergesInPlace, Publishes, PublishesIn, PublishesTables, PutsInFront, Waits, by_name, listed, nothing_fresh, sum_of}
 use Rattle.tf_rows.proofs.CanChange.{StandFrom, all_rows_stand}
-use Rattle.tf_rows.proofs.Fresh.{apart_by}
+use Rattle.tf_rows.proofs.Apart.{apart_by}
 use Rattle.tf_rows.proofs.Next.{by_row}
 use Rattle.tf_publish.proofs.Measures.{becomes, has_place, installed}
 use Rattle.tf_publish.proofs.OneRow.{others_stay, own_change}

@@ -1,5 +1,5 @@
 pub mod Changes
-pub mod Fresh
+pub mod Apart
 pub mod Grown
 pub mod Settled
 pub mod Statuses

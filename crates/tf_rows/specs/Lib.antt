@@ -1,6 +1,5 @@
 pub mod Edits
 pub mod Back
-pub mod Fresh
 pub mod Counts
 pub mod LookUps
 pub mod Held

@@ -1,4 +1,4 @@
-//! The 21 rows of a journal: what an entry changes in them, how look-ups are answered from them, and their mutable tables.
+//! The 21 rows of a journal: what an entry changes in them, how look-ups are answered from them, and what their mutable tables do.
 //!
 //! What an entry changes in the rows is computed from what is looked up for it, never from the whole journal.
 #![tactic(auto)]
@@ -13,16 +13,13 @@ mod counts;
 mod due;
 mod due_set;
 mod empty;
-mod entry;
 mod expiries;
 mod floors;
 mod former;
 mod found;
-mod held;
 mod laws;
 mod look_ups;
 mod mutable_rows;
-mod mutable_tables;
 mod resident;
 mod row_change;
 mod row_set;
@@ -40,18 +37,15 @@ pub use counts::Counts;
 pub use due::{due_count, next_due};
 pub use due_set::DueSet;
 pub use empty::EmptyRows;
-pub use entry::Before;
 pub use floors::Floors;
 pub use former::{Former, Formers, formers_of};
 pub use found::{Found, Party, look_up};
-pub use held::Held;
 pub use laws::{
     entries_leave_sums_in_range, rows_answer_look_ups, rows_change_by_edits, rows_go_back_by_edits,
     rows_show_the_next_entry, rows_tell_what_is_due,
 };
 pub use look_ups::{account, id_use, party, pending, shown, status, transfer};
-pub use mutable_rows::MutableRows;
-pub use mutable_tables::MutableTables;
+pub use mutable_rows::{Before, MutableRows};
 pub use resident::Resident;
 pub use row_set::RowSet;
 pub use seal_rows::SealRows;

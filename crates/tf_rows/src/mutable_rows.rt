@@ -7,10 +7,12 @@ ghost use Rattle.tf_manifest.specs.declared.value.Value.{Value};
 ghost use Rattle.tf_rows.specs.Nest.{IsTree, fits_row};
 ghost use Rattle.tf_rows.specs.Parts.{Entries, GivesBack, PutsEntry};
 
-use crate::entry::Before;
 use tf_manifest::{Row, Value};
 use tf_records::Refusal;
 use tf_table::Key;
+
+/// What a row's mutable table had at a key: an entry, which is a value or a tombstone, or none.
+pub type Before = Option<Option<Value>>;
 
 /// The mutable tables of the 21 rows, each of its own kind of value. Those of account_ids, account_sums, transfer_ids,
 /// pending_status and expiry take an entry for any key. Others take one for a key without an entry alone.

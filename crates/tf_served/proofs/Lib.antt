@@ -1,5 +1,4 @@
 mod Ending
-mod Merging
 mod Needed
 mod Serving
 mod Views

@@ -12,7 +12,8 @@ use Rattle.tf_main.specs.declared.fault.RunFault.{RunFault}
 use Rattle.tf_main.specs.Engine.{MayBeRefused}
 use Rattle.tf_main.specs.Run.{IsPrinted}
 use Rattle.tf_main.specs.Script.{asks_memory, publishes, pushes, refusal_of}
-use Rattle.tf_served.specs.Served.{IsCompacted, IsDone, IsDoneOrFull, IsFull, IsRead, IsRefused, Serves}
+use Rattle.tf_compaction.specs.Compaction.{IsCompacted, IsFull}
+use Rattle.tf_served.specs.Served.{IsDone, IsDoneOrFull, IsRead, IsRefused, Serves}
 
 -- over sealed tables every command may ask for memory
 pub all_ask : (command : Command) → asks_memory true command ≡ true

@@ -1,13 +1,11 @@
 -- What the calls of a store leave that store nothing.
-use Rattle.std.specs.Prelude.{◌≡◌, ◌⊎◌, ◌+◌, ◌<◌, ◌≤◌, ℕ, List, Option, Result, IfErr, OnOk, true}
+use Rattle.std.specs.Prelude.{◌≡◌, ◌⊎◌, ◌+◌, ◌≤◌, ℕ, List, Option, Result, IfErr, OnOk, true}
 use Rattle.std.specs.Io.KnownBytes.{Appends}
 use Rattle.tf_records.specs.declared.refusal.Refusal.{Refusal}
 use Rattle.tf_records.specs.declared.refusal.Refusal.TheVariants as refusal
 use Rattle.tf_manifest.specs.declared.row.Row.{Row}
-use Rattle.tf_manifest.specs.Kinds.{kind_of}
-use Rattle.tf_manifest.specs.View.{tables_by}
-use Rattle.tf_registry.specs.Run.{count_at}
 use Rattle.tf_forest.specs.Forest.{View}
+use Rattle.tf_compaction.specs.Compaction.{IsMergedOut}
 use Rattle.tf_script.specs.Command.{Command, publish, compact}
 use Rattle.tf_main.specs.declared.fault.RunFault.{RunFault}
 use Rattle.tf_main.specs.declared.fault.RunFault.TheVariants.{NoMemory, BadLine, CannotWrite}
@@ -33,32 +31,6 @@ pub record IsRead {X : Type 0} (old new : View) (result : Result X Refusal) : Ty
   pub limit : new.sealed.tables.pushed.limit ≡ old.sealed.tables.pushed.limit
   pub publishes : new.sealed.counts.publishes ≤ old.sealed.counts.publishes + 1
   pub refused : IfErr result (IsRefused old.sealed.counts.publishes)
-
--- memory was refused, or as many tables were pushed as there is room for
-abbrev pub IsFull : View → Refusal → Type 0
-IsFull forest refusal.NoMemory = Unit {0}
-IsFull forest refusal.RegistryFull = forest.sealed.tables.pushed.count ≡ forest.sealed.tables.pushed.limit
-IsFull forest refusal.BatchTooLarge = ⊥
-IsFull forest refusal.ClockExhausted = ⊥
-IsFull forest refusal.Stale = ⊥
-IsFull forest (refusal.BadLine line column) = ⊥
-IsFull forest (refusal.BadRecord length) = ⊥
-
--- journal, clock, the limit of pushes and the number of publishes are as they were
-pub record Stays (old new : View) : Type 0 where
-  pub journal : new.journal ≡ old.journal
-  pub clock : new.clock ≡ old.clock
-  pub limit : new.sealed.tables.pushed.limit ≡ old.sealed.tables.pushed.limit
-  pub publishes : new.sealed.counts.publishes ≡ old.sealed.counts.publishes
-
--- sealed tables were merged. A full registry is told only where as many tables were pushed as there is room for
-pub record IsCompacted {X : Type 0} (old new : View) (result : Result X Refusal) : Type 0 where
-  pub stays : Stays old new
-  pub refused : IfErr result (IsFull new)
-
--- a row has no run to merge: fewer than four tables of each level
-abbrev pub IsMergedOut : View → Row → Type 0
-IsMergedOut forest row = (level : ℕ) → count_at level (tables_by forest.sealed.tables (kind_of row)) < 4
 
 -- what a publish and a compaction are for: nothing waits, and no row has a run to merge
 abbrev pub IsDone : Command → View → Type 0

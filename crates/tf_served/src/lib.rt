@@ -3,7 +3,6 @@
 //! [`run_script`] makes registries and a store with one share, and runs a script's commands by it.
 #![tactic(auto)]
 
-mod compacting;
 mod run;
 mod script;
 mod served;

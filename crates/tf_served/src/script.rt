@@ -14,10 +14,11 @@ use std::marker::Brand;
 use std::sync::Wait;
 use tf_main::{RunFault, read_script};
 use tf_manifest::Registries;
+use tf_mutable_rows::MutableTables;
 use tf_query::Version;
 use tf_readers::{Copies, Publishable};
 use tf_records::Refusal;
-use tf_rows::{EmptyRows, MutableTables, SealRows};
+use tf_rows::{EmptyRows, SealRows};
 use tf_script::Command;
 use tf_store::{BlankStore, Share, Store, StoreName, StoreOf, VersionCopies, VersionOf};
 

@@ -8,11 +8,12 @@ ghost use Rattle.tf_pending.specs.Pulse.{IsPulseRun};
 ghost use Rattle.tf_rows.specs.Counts.{AreBounded};
 ghost use Rattle.tf_script.specs.Command as command;
 ghost use Rattle.tf_script.specs.declared.command.Query.TheVariants.{AccountTransfers, AccountBalances, Accounts, Transfers};
-ghost use Rattle.tf_served.specs.Served.{IsMergedOut, IsRead, Serves};
+ghost use Rattle.tf_compaction.specs.Compaction.{IsMergedOut};
+ghost use Rattle.tf_served.specs.Served.{IsRead, Serves};
 
-use crate::compacting::compact;
 use std::alloc::Allocator;
 use std::sync::Wait;
+use tf_compaction::compact;
 use tf_forest::Forest;
 use tf_journal::Ledger;
 use tf_publish::Rows;

@@ -13,11 +13,12 @@ use std::process::Abort;
 use std::sync::Wait;
 use std::test::Fail;
 use tf_manifest::Registries;
+use tf_mutable_rows::MutableTables;
 use tf_query::Version;
 use tf_readers::{Copies, Publishable, Reader};
 use tf_records::Refusal;
 use tf_registry::Pushes;
-use tf_rows::{EmptyRows, MutableTables, SealRows};
+use tf_rows::{EmptyRows, SealRows};
 use tf_store::{
     BlankStore, Share, Store, StoreName, StoreOf, StoredCopies, StoredForest, VersionCopies,
     VersionOf,

@@ -10,10 +10,11 @@ use std::test::Fail;
 use std::thread;
 use std::thread::Threads;
 use tf_manifest::Registries;
+use tf_mutable_rows::MutableTables;
 use tf_query::Version;
 use tf_readers::{Copies, Publishable, Reader};
 use tf_records::Refusal;
-use tf_rows::{EmptyRows, MutableRows, MutableTables, SealRows};
+use tf_rows::{EmptyRows, MutableRows, SealRows};
 use tf_store::{BlankStore, Share, StoreName, StoreOf, StoredCopies, VersionCopies, VersionOf};
 use tf_store_trials::{sees, stores};
 

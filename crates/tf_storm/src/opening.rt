@@ -13,10 +13,11 @@ use std::sync::Wait;
 use std::thread::Threads;
 use tf_main::RunFault;
 use tf_manifest::Registries;
+use tf_mutable_rows::MutableTables;
 use tf_query::Version;
 use tf_readers::{Copies, Publishable, Reader};
 use tf_records::Refusal;
-use tf_rows::{EmptyRows, MutableTables, SealRows};
+use tf_rows::{EmptyRows, SealRows};
 use tf_store::{BlankStore, Share, StoreName, StoreOf, VersionCopies, VersionOf};
 use tf_workers::{Done, Gate, StormFault, Totals, storm};
 

@@ -1,0 +1,280 @@
+//! The mutable tables of the 21 rows.
+ghost use Rattle.std.specs.Prelude.{◌≡◌, ◌<◌, ℕ, [], None, length, slice_index_or, slice_set, IsSome, IfSome, IfNone, IfOk, IfErr, OnOk, OnErr};
+ghost use Rattle.tf_sorted.specs.Rows.{with_row};
+ghost use Rattle.tf_mutable_rows.specs.Fresh.{entries_by};
+ghost use Rattle.tf_rows.specs.Held.{unit_held};
+ghost use Rattle.tf_rows.specs.Parts.{seen_rows};
+ghost use Rattle.tf_manifest.specs.Kinds.{unit_index};
+ghost use Rattle.tf_manifest.specs.declared.value.Value.{Value};
+ghost use Rattle.tf_table.specs.Content.{entry_at};
+ghost use Rattle.tf_table.specs.Key.{key_cmp};
+ghost use Rattle.tf_mutable.specs.Mutable.{given_back};
+
+use crate::entry::{entry_in, has_none, put_entry, take_back};
+use std::alloc::Allocator;
+use std::marker::Model;
+use tf_btree::Tree;
+use tf_journal::Status;
+use tf_manifest::{IdStamp, Kind, Row, StampRow, State, Stored, UnitRow, Value};
+use tf_mutable::{Log, MutableTable};
+use tf_records::{Account, Refusal, Sums, Transfer};
+use tf_rows::{Before, EmptyRows, MutableRows, SealRows, SealedRow};
+use tf_table::{Key, Sealed};
+
+/// How many indexes there are: the rows that store nothing beside their keys, but for expiry.
+const INDEXES: usize = 12;
+
+/// The mutable tables of the 21 rows.
+///
+/// A row that is looked up or changed by key before it is sealed has a tree, each other a log, to which a row is added in
+/// constant time.
+#[derive(Drop)]
+pub struct MutableTables<A: Allocator + Clone> {
+    account_ids: Tree<Key, Option<u64>, A>,
+    expiry_entries: Log<u64, A>,
+    account_objects: Log<Stored<Account>, A>,
+    transfer_objects: Log<Stored<Transfer>, A>,
+    transfer_ids: Tree<Key, Option<IdStamp>, A>,
+    /// The indexes, in the order of their rows.
+    indexes: [Log<(), A>; INDEXES],
+    expiry: Tree<Key, Option<()>, A>,
+    account_sums: Tree<Key, Option<State>, A>,
+    history: Log<Stored<Sums>, A>,
+    pending_status: Tree<Key, Option<Stored<Status>>, A>,
+}
+
+impl<A: Allocator + Clone> Model for MutableTables<A> {
+    ghost use Rattle.std.specs.Prelude.{◌≡◌, [], ◌∷◌, ◌++◌, length};
+    ghost use Rattle.tf_mutable_rows.specs.Fresh.{Fresh};
+
+    ghost Value = { Fresh };
+
+    ghost view = { λ t. record {
+      stamps = t.account_ids ∷ t.expiry_entries ∷ [];
+      accounts = t.account_objects;
+      transfers = t.transfer_objects;
+      ids = t.transfer_ids;
+      units = t.indexes ++ t.expiry ∷ [];
+      states = t.account_sums;
+      sums = t.history;
+      statuses = t.pending_status;
+    } };
+
+    ghost invariant = { λ t. length t.indexes ≡ 12 };
+}
+
+/// The place of an index among the indexes. Expiry is none.
+fn index_place(row: UnitRow) -> Option<usize>
+    ensures index { IfSome result (λ at. at ≡ unit_index row) }
+    ensures below { IfSome result (λ at. at < 12) }
+    ensures expiry { IfNone result (unit_index row ≡ 12) }
+{
+    let place = row.index();
+    if place < INDEXES { Some(place) } else { None }
+}
+
+/// Gives a key of one of several indexes an entry, as `put_entry` does.
+fn put_in_one<A: Allocator + Clone>(
+    indexes: &mut [Log<(), A>],
+    place: usize,
+    key: Key,
+    entry: &Option<Value>,
+) -> Result<Before, Refusal>
+    requires there { place < length indexes.old }
+    requires takes { entry_at key (slice_index_or indexes.old place []) ≡ None }
+    requires fits { IfSome entry.now (λ value. IsSome (unit_held value)) }
+    ensures others { indexes.new ≡ slice_set indexes.old place (slice_index_or indexes.new place []) }
+    ensures rows { OnOk result (seen_rows (λ nothing. Value.Unit) (slice_index_or indexes.new place []) ≡ with_row key_cmp key entry.now (seen_rows (λ nothing. Value.Unit) (slice_index_or indexes.old place []))) }
+    ensures there { OnOk result (IsSome (entry_at key (seen_rows (λ nothing. Value.Unit) (slice_index_or indexes.new place [])))) }
+    ensures held { IfOk result (λ before. IfSome before (λ entry. IfSome entry (λ value. IsSome (unit_held value)))) }
+    ensures restores { IfOk result (λ before. given_back key before (seen_rows (λ nothing. Value.Unit) (slice_index_or indexes.new place [])) ≡ seen_rows (λ nothing. Value.Unit) (slice_index_or indexes.old place [])) }
+    ensures err { OnErr result (slice_index_or indexes.new place [] ≡ slice_index_or indexes.old place []) }
+    ensures refusal { IfErr result (λ refusal. refusal ≡ Refusal.NoMemory) }
+{
+    put_entry(&mut indexes[place], key, entry)
+}
+
+/// Gives a key of one of several indexes the entry back that `put_in_one` told, or none. It takes no memory.
+fn take_back_in_one<A: Allocator + Clone>(
+    indexes: &mut [Log<(), A>],
+    place: usize,
+    key: &Key,
+    before: Before,
+)
+    requires there { place < length indexes.old }
+    requires entry { IsSome (entry_at key.now (seen_rows (λ nothing. Value.Unit) (slice_index_or indexes.old place []))) }
+    requires fits { IfSome before (λ entry. IfSome entry (λ value. IsSome (unit_held value))) }
+    ensures others { indexes.new ≡ slice_set indexes.old place (slice_index_or indexes.new place []) }
+    ensures rows { seen_rows (λ nothing. Value.Unit) (slice_index_or indexes.new place []) ≡ given_back key.now before (seen_rows (λ nothing. Value.Unit) (slice_index_or indexes.old place [])) }
+{
+    take_back(&mut indexes[place], key, before);
+}
+
+/// The entries of one of several indexes as a sealed table. They stay. The only refusal is `NoMemory`.
+fn seal_one<A: Allocator + Clone>(
+    indexes: &mut [Log<(), A>],
+    place: usize,
+    alloc: A,
+) -> Result<Sealed<(), A>, Refusal>
+    requires { place < length indexes.old }
+    ensures sealed { IfOk result (λ sealed. sealed ≡ slice_index_or indexes.old place []) }
+    ensures same { indexes.new ≡ indexes.old }
+    ensures refusal { IfErr result (λ refusal. refusal ≡ Refusal.NoMemory) }
+{
+    indexes[place].seal(alloc)
+}
+
+/// Takes all entries of indexes away. It takes no memory.
+fn clear_all<A: Allocator + Clone>(indexes: &mut [Log<(), A>])
+    ensures none { (place : ℕ) → slice_index_or indexes.new place [] ≡ [] }
+    ensures many { length indexes.new ≡ length indexes.old }
+{
+    for place in 0..indexes.len() {
+        indexes[place].clear();
+    }
+}
+
+impl<A: Allocator + Clone> MutableRows for MutableTables<A> {
+    ghost entries = { λ tables. entries_by tables };
+
+    fn entry(&self, row: Row, key: &Key) -> Before {
+        match row.kind() {
+            Kind::Stamp(StampRow::AccountIds) => entry_in(&self.account_ids, key),
+            Kind::Stamp(StampRow::ExpiryEntries) => entry_in(&self.expiry_entries, key),
+            Kind::Account => entry_in(&self.account_objects, key),
+            Kind::Transfer => entry_in(&self.transfer_objects, key),
+            Kind::Id => entry_in(&self.transfer_ids, key),
+            Kind::Unit(row) => match index_place(row) {
+                Some(place) => entry_in(&self.indexes.as_slice()[place], key),
+                None => entry_in(&self.expiry, key),
+            },
+            Kind::State => entry_in(&self.account_sums, key),
+            Kind::Sums => entry_in(&self.history, key),
+            Kind::Status => entry_in(&self.pending_status, key),
+        }
+    }
+
+    fn put(&mut self, row: Row, key: Key, entry: &Option<Value>) -> Result<Before, Refusal> {
+        match row.kind() {
+            Kind::Stamp(StampRow::AccountIds) => put_entry(&mut self.account_ids, key, entry),
+            Kind::Stamp(StampRow::ExpiryEntries) => put_entry(&mut self.expiry_entries, key, entry),
+            Kind::Account => put_entry(&mut self.account_objects, key, entry),
+            Kind::Transfer => put_entry(&mut self.transfer_objects, key, entry),
+            Kind::Id => put_entry(&mut self.transfer_ids, key, entry),
+            Kind::Unit(row) => match index_place(row) {
+                Some(place) => put_in_one(self.indexes.as_mut_slice(), place, key, entry),
+                None => put_entry(&mut self.expiry, key, entry),
+            },
+            Kind::State => put_entry(&mut self.account_sums, key, entry),
+            Kind::Sums => put_entry(&mut self.history, key, entry),
+            Kind::Status => put_entry(&mut self.pending_status, key, entry),
+        }
+    }
+
+    fn take_back(&mut self, row: Row, key: &Key, before: Before) {
+        match row.kind() {
+            Kind::Stamp(StampRow::AccountIds) => take_back(&mut self.account_ids, key, before),
+            Kind::Stamp(StampRow::ExpiryEntries) => {
+                take_back(&mut self.expiry_entries, key, before)
+            }
+            Kind::Account => take_back(&mut self.account_objects, key, before),
+            Kind::Transfer => take_back(&mut self.transfer_objects, key, before),
+            Kind::Id => take_back(&mut self.transfer_ids, key, before),
+            Kind::Unit(row) => match index_place(row) {
+                Some(place) => take_back_in_one(self.indexes.as_mut_slice(), place, key, before),
+                None => take_back(&mut self.expiry, key, before),
+            },
+            Kind::State => take_back(&mut self.account_sums, key, before),
+            Kind::Sums => take_back(&mut self.history, key, before),
+            Kind::Status => take_back(&mut self.pending_status, key, before),
+        }
+    }
+}
+
+impl<A: Allocator + Copy> EmptyRows<A> for MutableTables<A> {
+    fn empty(alloc: A) -> Self {
+        MutableTables {
+            account_ids: Tree::new_in(alloc),
+            expiry_entries: Log::new_in(alloc),
+            account_objects: Log::new_in(alloc),
+            transfer_objects: Log::new_in(alloc),
+            transfer_ids: Tree::new_in(alloc),
+            indexes: [
+                Log::new_in(alloc),
+                Log::new_in(alloc),
+                Log::new_in(alloc),
+                Log::new_in(alloc),
+                Log::new_in(alloc),
+                Log::new_in(alloc),
+                Log::new_in(alloc),
+                Log::new_in(alloc),
+                Log::new_in(alloc),
+                Log::new_in(alloc),
+                Log::new_in(alloc),
+                Log::new_in(alloc),
+            ],
+            expiry: Tree::new_in(alloc),
+            account_sums: Tree::new_in(alloc),
+            history: Log::new_in(alloc),
+            pending_status: Tree::new_in(alloc),
+        }
+    }
+}
+
+impl<A: Allocator + Clone> SealRows<A> for MutableTables<A> {
+    fn has_none(&self, row: Row) -> bool {
+        match row.kind() {
+            Kind::Stamp(StampRow::AccountIds) => has_none(&self.account_ids),
+            Kind::Stamp(StampRow::ExpiryEntries) => has_none(&self.expiry_entries),
+            Kind::Account => has_none(&self.account_objects),
+            Kind::Transfer => has_none(&self.transfer_objects),
+            Kind::Id => has_none(&self.transfer_ids),
+            Kind::Unit(row) => match index_place(row) {
+                Some(place) => has_none(&self.indexes.as_slice()[place]),
+                None => has_none(&self.expiry),
+            },
+            Kind::State => has_none(&self.account_sums),
+            Kind::Sums => has_none(&self.history),
+            Kind::Status => has_none(&self.pending_status),
+        }
+    }
+
+    fn seal(&mut self, row: Row, alloc: A) -> Result<SealedRow<A>, Refusal> {
+        match row.kind() {
+            Kind::Stamp(StampRow::AccountIds) => Ok(SealedRow::Stamp(
+                StampRow::AccountIds,
+                self.account_ids.seal(alloc)?,
+            )),
+            Kind::Stamp(StampRow::ExpiryEntries) => Ok(SealedRow::Stamp(
+                StampRow::ExpiryEntries,
+                self.expiry_entries.seal(alloc)?,
+            )),
+            Kind::Account => Ok(SealedRow::Account(self.account_objects.seal(alloc)?)),
+            Kind::Transfer => Ok(SealedRow::Transfer(self.transfer_objects.seal(alloc)?)),
+            Kind::Id => Ok(SealedRow::Id(self.transfer_ids.seal(alloc)?)),
+            Kind::Unit(row) => match index_place(row) {
+                Some(place) => {
+                    let index = seal_one(self.indexes.as_mut_slice(), place, alloc)?;
+                    Ok(SealedRow::Unit(row, index))
+                }
+                None => Ok(SealedRow::Unit(row, self.expiry.seal(alloc)?)),
+            },
+            Kind::State => Ok(SealedRow::State(self.account_sums.seal(alloc)?)),
+            Kind::Sums => Ok(SealedRow::Sums(self.history.seal(alloc)?)),
+            Kind::Status => Ok(SealedRow::Status(self.pending_status.seal(alloc)?)),
+        }
+    }
+
+    fn clear(&mut self) {
+        self.account_ids.clear();
+        self.expiry_entries.clear();
+        self.account_objects.clear();
+        self.transfer_objects.clear();
+        self.transfer_ids.clear();
+        clear_all(self.indexes.as_mut_slice());
+        self.expiry.clear();
+        self.account_sums.clear();
+        self.history.clear();
+        self.pending_status.clear();
+    }
+}
