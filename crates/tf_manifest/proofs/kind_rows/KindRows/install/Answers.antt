@@ -1,3 +1,4 @@
+use borrow.Author.Rules.{scaled_Fits}
 use Rattle.std.proofs.Common.{◌≡◌, ◌<◌, ◌∙◌, ap, sym, subst, length, List, IfErr, [], slice_set}
 use Rattle.std.specs.Prelude.{slice_index_or}
 use Rattle.std.specs.List.{refill}
@@ -56,3 +57,25 @@ pub returns-clause-no_memory : goal.returns-clause-no_memory
 returns-clause-no_memory g c =
     subst (λ (ts : List (Shown g.row.V.Denot)). IfErr c.install.result (λ e. IfNoMemory e (λ m. Stands ts c.args.merged.run × (c.args.pushes.now.count < c.args.pushes.now.limit))))
     (same g c) c.install.ensures.no_memory
+
+pub returns-clause-count : goal.returns-clause-count
+returns-clause-count g c = ap length (written g c) ∙ length-slice_set c.args.self.now c.args.at c.install.new.self
+
+pub returns-clause-pushed : goal.returns-clause-pushed
+returns-clause-pushed g c = c.install.ensures.pushed
+
+pub returns-clause-room : goal.returns-clause-room
+returns-clause-room g c = c.install.ensures.room
+
+pub returns-clause-back : goal.returns-clause-back
+returns-clause-back g c = c.install.ensures.back
+
+pub invariant_of-self : goal.invariant_of-self
+invariant_of-self g c = c.self.invariant
+
+pub bounds-as_mut_slice-at : goal.bounds-as_mut_slice-at
+bounds-as_mut_slice-at g c =
+    subst (λ (rs : List (List (Shown g.row.V.Denot))). c.args.at < length rs) (sym (c.as_mut_slice.ensures.value ∙ c.self.view_is)) c.requires
+
+pub offset_bounds-as_mut_slice-at : goal.offset_bounds-as_mut_slice-at
+offset_bounds-as_mut_slice-at g c = scaled_Fits _ _ _ (bounds-as_mut_slice-at g c) c.as_mut_slice.type_inv.1
