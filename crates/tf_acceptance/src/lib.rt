@@ -10,3 +10,5 @@ mod endings;
 mod scripts;
 #[cfg(test)]
 mod sizes;
+#[cfg(test)]
+mod spelling;

@@ -1,89 +1,27 @@
-//! The largest batches, pulses and look-ups.
+//! The largest batches, pulses, look-ups and answers, and sizes past each at which a growth could be given up.
 
-use std::alloc::AllocError;
+use crate::spelling::spelled_out;
+use std::alloc::Global;
+use std::process::Abort;
+use std::sync::Wait;
 use std::test::Fail;
 use tf_main::run_script_plainly;
+use tf_served::run_script;
 
-/// Adds a batch of transfers of 1 between accounts 1 and 2, with the ids of the range, each with further fields.
-fn push_batch(
-    rt: &impl AllocGlobal,
-    script: &mut String,
-    now: &str,
-    first: u32,
-    last: u32,
-    further: &str,
-) -> Result<(), AllocError> {
-    script.push_str("transfers ")?;
-    script.push_str(now)?;
-    script.push_str("\n")?;
-    for id in first..=last {
-        let line = format!(in rt.alloc();
-            "+ id={id} debit_account_id=1 credit_account_id=2 amount=1 ledger=700 code=1{further}\n"
-        )?;
-        script.push_str(line.as_str())?;
-    }
-    script.push_str("end\n")
+/// What a script prints over the plain ledger.
+fn printed_plainly(alloc: Global, short: &str) -> Result<Vec<u8>, Fail> {
+    let script = spelled_out(alloc, short)?;
+    let mut out = Vec::new(alloc);
+    run_script_plainly(alloc, script.as_bytes(), &mut out)?;
+    Ok(out)
 }
 
-/// Adds a look-up of so many accounts that aren't stored.
-fn push_lookup(script: &mut String, count: u32) -> Result<(), AllocError> {
-    script.push_str("lookup_accounts")?;
-    for _ in 0..count {
-        script.push_str(" 9")?;
-    }
-    script.push_str("\n")
-}
-
-const TWO_ACCOUNTS: &str =
-    "accounts 1000\n+ id=1 ledger=700 code=10\n+ id=2 ledger=700 code=10\nend\n";
-
-#[test]
-fn a_batch_has_at_most_8190_events(rt: HostRuntime) -> Result<(), Fail> {
-    let mut script = String::from_str(rt.alloc(), TWO_ACCOUNTS)?;
-    push_batch(&rt, &mut script, "0", 1, 8191, "")?;
-    push_batch(&rt, &mut script, "0", 1, 8190, "")?;
+/// What it prints over a store.
+fn printed<R: AllocGlobal + Wait>(rt: &R, short: &str) -> Result<Vec<u8>, Fail> {
+    let script = spelled_out(rt.alloc(), short)?;
     let mut out = Vec::new(rt.alloc());
-    run_script_plainly(rt.alloc(), script.as_bytes(), &mut out)?;
-    assert!(rt; out.as_slice() == "clock 1002\nrefused batch_too_large\nclock 9192\n".as_bytes());
-    Ok(())
-}
-
-#[test]
-fn a_batch_too_large_is_that_whatever_its_moment(rt: HostRuntime) -> Result<(), Fail> {
-    let mut script = String::from_str(rt.alloc(), TWO_ACCOUNTS)?;
-    push_batch(&rt, &mut script, "max", 1, 8191, "")?;
-    push_batch(&rt, &mut script, "max", 1, 1, "")?;
-    let mut out = Vec::new(rt.alloc());
-    run_script_plainly(rt.alloc(), script.as_bytes(), &mut out)?;
-    let answer = "clock 1002\nrefused batch_too_large\nrefused clock_exhausted\n";
-    assert!(rt; out.as_slice() == answer.as_bytes());
-    Ok(())
-}
-
-#[test]
-fn a_pulse_expires_at_most_8190(rt: HostRuntime) -> Result<(), Fail> {
-    let pending = " flags=pending timeout=1";
-    let mut script = String::from_str(rt.alloc(), TWO_ACCOUNTS)?;
-    push_batch(&rt, &mut script, "0", 1, 8190, pending)?;
-    push_batch(&rt, &mut script, "0", 8191, 8191, pending)?;
-    script.push_str("pulse 9000000000 max\npulse 0 max\npulse 0 max\n")?;
-    let mut out = Vec::new(rt.alloc());
-    run_script_plainly(rt.alloc(), script.as_bytes(), &mut out)?;
-    let answer = "clock 1002\nclock 9192\nclock 9193\n\
-         expired 8190\nclock 9000008190\nexpired 1\nclock 9000008191\nexpired 0\nclock 9000008191\n";
-    assert!(rt; out.as_slice() == answer.as_bytes());
-    Ok(())
-}
-
-#[test]
-fn a_look_up_has_at_most_8190_ids(rt: HostRuntime) -> Result<(), Fail> {
-    let mut script = String::from_str(rt.alloc(), TWO_ACCOUNTS)?;
-    push_lookup(&mut script, 8190)?;
-    push_lookup(&mut script, 8191)?;
-    let mut out = Vec::new(rt.alloc());
-    run_script_plainly(rt.alloc(), script.as_bytes(), &mut out)?;
-    assert!(rt; out.as_slice() == "clock 1002\nrows 0\nrefused batch_too_large\n".as_bytes());
-    Ok(())
+    run_script(rt, rt.alloc(), script.as_bytes(), &mut out)?;
+    Ok(out)
 }
 
 /// How many line feeds bytes have.
@@ -91,20 +29,183 @@ fn line_count(bytes: &[u8]) -> usize {
     bytes.iter().filter(|byte| **byte == b'\n').count()
 }
 
+/// A script prints this over the plain ledger.
+fn assert_prints(rt: &(impl Abort + AllocGlobal), short: &str, answer: &str) -> Result<(), Fail> {
+    let out = printed_plainly(rt.alloc(), short)?;
+    assert!(rt; out.as_slice() == answer.as_bytes());
+    Ok(())
+}
+
+/// A script prints the same over a store as over the plain ledger, in so many lines.
+fn assert_alike<R: Abort + AllocGlobal + Wait>(
+    rt: &R,
+    short: &str,
+    lines: usize,
+) -> Result<(), Fail> {
+    let plainly = printed_plainly(rt.alloc(), short)?;
+    let out = printed(rt, short)?;
+    assert!(rt; out.as_slice() == plainly.as_slice());
+    assert!(rt; line_count(out.as_slice()) == lines);
+    Ok(())
+}
+
+/// What a script prints over a store ends so.
+fn assert_ends<R: Abort + AllocGlobal + Wait>(rt: &R, short: &str, end: &str) -> Result<(), Fail> {
+    let out = printed(rt, short)?;
+    assert!(rt; out.as_slice().ends_with(end.as_bytes()));
+    Ok(())
+}
+
+#[test]
+fn a_batch_has_at_most_8190_events(rt: HostRuntime) -> Result<(), Fail> {
+    const BATCHES: &str = "\
+accounts 1000
+@events 1 2 0 ledger=700 code=10
+end
+transfers 0
+@events 1 8191 0 debit_account_id=1 credit_account_id=2 amount=1 ledger=700 code=1
+end
+transfers 0
+@events 1 8190 0 debit_account_id=1 credit_account_id=2 amount=1 ledger=700 code=1
+end";
+    assert_prints(
+        &rt,
+        BATCHES,
+        "clock 1002\nrefused batch_too_large\nclock 9192\n",
+    )
+}
+
+#[test]
+fn a_batch_too_large_is_that_whatever_its_moment(rt: HostRuntime) -> Result<(), Fail> {
+    const LATE: &str = "\
+accounts 1000
+@events 1 2 0 ledger=700 code=10
+end
+transfers max
+@events 1 8191 0 debit_account_id=1 credit_account_id=2 amount=1 ledger=700 code=1
+end
+transfers max
+@events 1 1 0 debit_account_id=1 credit_account_id=2 amount=1 ledger=700 code=1
+end";
+    assert_prints(
+        &rt,
+        LATE,
+        "clock 1002\nrefused batch_too_large\nrefused clock_exhausted\n",
+    )
+}
+
+#[test]
+fn a_pulse_expires_at_most_8190(rt: HostRuntime) -> Result<(), Fail> {
+    const PENDING: &str = "\
+accounts 1000
+@events 1 2 0 ledger=700 code=10
+end
+@batches transfers 1 8191 0 debit_account_id=1 credit_account_id=2 amount=1 ledger=700 code=1 flags=pending timeout=1
+pulse 9000000000 max
+pulse 0 max
+pulse 0 max";
+    assert_prints(
+        &rt,
+        PENDING,
+        "clock 1002\nclock 9192\nclock 9193\n\
+         expired 8190\nclock 9000008190\nexpired 1\nclock 9000008191\nexpired 0\nclock 9000008191\n",
+    )
+}
+
+#[test]
+fn a_look_up_has_at_most_8190_ids(rt: HostRuntime) -> Result<(), Fail> {
+    const LOOK_UPS: &str = "\
+@ids 1 8190 lookup_accounts
+@ids 1 8191 lookup_accounts
+@ids 1 8191 lookup_transfers";
+    assert_prints(
+        &rt,
+        LOOK_UPS,
+        "rows 0\nrefused batch_too_large\nrefused batch_too_large\n",
+    )
+}
+
 #[test]
 fn an_answer_has_at_most_8190_rows(rt: HostRuntime) -> Result<(), Fail> {
-    let mut script = String::from_str(rt.alloc(), TWO_ACCOUNTS)?;
-    push_batch(&rt, &mut script, "0", 1, 8190, "")?;
-    push_batch(&rt, &mut script, "0", 8191, 8192, "")?;
-    script.push_str("query_transfers limit=max\n")?;
-    script.push_str("get_account_transfers account_id=1 limit=8191 flags=debits|reversed\n")?;
-    let mut out = Vec::new(rt.alloc());
-    run_script_plainly(rt.alloc(), script.as_bytes(), &mut out)?;
+    const ANSWERS: &str = "\
+accounts 1000
+@events 1 2 0 ledger=700 code=10
+end
+@batches transfers 1 8192 0 debit_account_id=1 credit_account_id=2 amount=1 ledger=700 code=1
+query_transfers limit=max
+get_account_transfers account_id=1 limit=8191 flags=debits|reversed";
     // three clocks, and twice 8,190 rows with their count
-    assert!(rt; line_count(out.as_slice()) == 3 + 2 * 8191);
-    assert!(rt;
-        out.as_slice()
-            .ends_with("timestamp=1005\nrows 8190\n".as_bytes())
-    );
-    Ok(())
+    assert_alike(&rt, ANSWERS, 3 + 2 * 8191)
+}
+
+/// Each query and look-up answers as many rows as it may, by one field and by several, before and after a compaction.
+#[test]
+fn each_query_answers_8190_rows(rt: HostRuntime) -> Result<(), Fail> {
+    const ACCOUNTS: &str = "\
+@batches accounts 1 8190 0 ledger=700 code=10 user_data_32=7
+query_accounts limit=8190
+query_accounts user_data_32=7 ledger=700 code=10 limit=8190 flags=reversed
+@ids 1 8190 lookup_accounts";
+    // a clock, and three answers with their counts
+    assert_alike(&rt, ACCOUNTS, 1 + 3 * 8191)?;
+    const TRANSFERS: &str = "\
+@batches accounts 1 2 0 ledger=700 code=10 flags=history
+@batches transfers 1 8190 0 debit_account_id=1 credit_account_id=2 amount=1 ledger=700 code=1 user_data_128=5 user_data_64=6 user_data_32=7
+query_transfers limit=8190 flags=reversed
+query_transfers user_data_128=5 user_data_64=6 user_data_32=7 ledger=700 code=1 limit=8190
+get_account_transfers account_id=1 limit=8190 flags=debits|credits
+get_account_transfers account_id=2 user_data_128=5 user_data_64=6 user_data_32=7 code=1 limit=8190 flags=credits|reversed
+get_account_balances account_id=1 limit=8190 flags=debits
+@ids 1 8190 lookup_transfers
+compact
+query_transfers user_data_128=5 user_data_64=6 user_data_32=7 limit=8190
+get_account_balances account_id=2 user_data_64=6 code=1 limit=8190 flags=credits";
+    // two clocks, eight answers with their counts, and a compaction
+    assert_alike(&rt, TRANSFERS, 2 + 8 * 8191 + 1)
+}
+
+/// A script has a hundred thousand commands, and lines as long as look-ups can make them.
+#[test]
+fn a_script_has_100000_commands(rt: HostRuntime) -> Result<(), Fail> {
+    const COMMANDS: &str = "\
+@times 100000 lookup_accounts 1
+@ids 4000000000 4000008189 lookup_transfers";
+    assert_alike(&rt, COMMANDS, 100_001)
+}
+
+/// What is published at once is a hundred thousand accounts, transfers with history, pending transfers, posts, voids, expiries or ids
+/// that failed.
+#[test]
+fn a_publish_has_100000_entries_of_each_kind(rt: HostRuntime) -> Result<(), Fail> {
+    const ENTRIES: &str = "\
+accounts 0
+@events 1 2 0 ledger=700 code=10 flags=history
+@events 3 3 0 ledger=700 code=10 flags=debits_must_not_exceed_credits
+end
+publish
+@batches accounts 1000001 1100000 0 ledger=700 code=10
+publish
+lookup_accounts 1000001 1100000
+@batches transfers 1 100000 0 debit_account_id=1 credit_account_id=2 amount=1 ledger=700 code=1
+publish
+get_account_balances account_id=1 limit=1 flags=debits|reversed
+@batches transfers 200001 300000 0 debit_account_id=1 credit_account_id=2 amount=1 ledger=700 code=1 flags=pending
+publish
+@batches transfers 300001 400000 100000 pending_id=# amount=max flags=post_pending_transfer
+publish
+lookup_transfers 400000
+@batches transfers 500001 600000 0 debit_account_id=1 credit_account_id=2 amount=1 ledger=700 code=1 flags=pending
+publish
+@batches transfers 600001 700000 100000 pending_id=# flags=void_pending_transfer
+publish
+lookup_transfers 700000
+@batches transfers 800001 900000 0 debit_account_id=1 credit_account_id=2 amount=1 ledger=700 code=1 flags=pending timeout=1
+publish
+@times 13 pulse 9000000000 max
+publish
+@batches transfers 900001 1000000 0 debit_account_id=3 credit_account_id=2 amount=1 ledger=700 code=1
+publish
+compact
+lookup_accounts 1 2 3";
+    assert_ends(&rt, ENTRIES, "rows 3\n")
 }
