@@ -30,7 +30,7 @@ use Rattle.tf_publish.proofs.Measures.{installed}
 use Rattle.tf_publish.proofs.OneRow.{of_row, others_stay}
 use Rattle.tf_rows.proofs.Apart.{apart_by}
 use Rattle.tf_rows.proofs.Next.{by_row}
-use Rattle.tf_compaction.specs.Compaction.{IsCompacted, IsFull, IsMergedOut, Stays}
+use Rattle.tf_compaction.specs.Compaction.{IsCompacted, IsFull, IsMergedOut, KeepsRest, Stays}
 
 -- other rows leave what was pushed
 pushed_stays : (view : manifest.View) (k : Kind) (rows : List (List (Shown (StoredBy k)))) → (with_rows view k rows).pushed ≡ view.pushed
@@ -159,6 +159,15 @@ stays_on old mid new first second = record {
   clock = second.clock ∙ first.clock;
   limit = second.limit ∙ first.limit;
   publishes = second.publishes ∙ first.publishes;
+}
+
+pub rest_on : (old mid new : store.View) → KeepsRest old mid → KeepsRest mid new → KeepsRest old new
+rest_on old mid new before after = record {
+  receipts = after.receipts ∙ before.receipts;
+  readable = after.readable ∙ before.readable;
+  fresh = after.fresh ∙ before.fresh;
+  waiting = after.waiting ∙ before.waiting;
+  kept = after.kept ∙ before.kept;
 }
 
 below_or_at : (a n : ℕ) → a < n + 1 → ¬ (a ≡ n) → a < n

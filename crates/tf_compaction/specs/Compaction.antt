@@ -7,6 +7,7 @@ use Rattle.tf_manifest.specs.Kinds.{kind_of}
 use Rattle.tf_manifest.specs.View.{tables_by}
 use Rattle.tf_registry.specs.Run.{count_at}
 use Rattle.tf_forest.specs.Forest.{View}
+use Rattle.tf_store.specs.Store as store
 
 -- memory was refused, or as many tables were pushed as there is room for
 abbrev pub IsFull : View → Refusal → Type 0
@@ -24,6 +25,14 @@ pub record Stays (old new : View) : Type 0 where
   pub clock : new.clock ≡ old.clock
   pub limit : new.sealed.tables.pushed.limit ≡ old.sealed.tables.pushed.limit
   pub publishes : new.sealed.counts.publishes ≡ old.sealed.counts.publishes
+
+-- what no merge touches: the receipts that wait, what readers can see, and the entries that wait for a publish
+pub record KeepsRest (old new : store.View) : Type 0 where
+  pub receipts : new.waiting ≡ old.waiting
+  pub readable : new.readable ≡ old.readable
+  pub fresh : new.forest.fresh ≡ old.forest.fresh
+  pub waiting : new.forest.waiting ≡ old.forest.waiting
+  pub kept : new.forest.kept ≡ old.forest.kept
 
 -- sealed tables were merged. A full registry is told only where as many tables were pushed as there is room for
 pub record IsCompacted {X : Type 0} (old new : View) (result : Result X Refusal) : Type 0 where

@@ -1,7 +1,7 @@
 //! Merges of a store's sealed tables, until no row has a run to merge.
 ghost use Rattle.std.specs.Prelude.{◌≡◌, ◌≢◌, ◌⊎◌, ◌+◌, ◌<◌, false, None, Ok, Err, Some, IfErr, IfOk, IsTrue, OnOk};
 ghost use Rattle.std.specs.Result.{is_ok};
-ghost use Rattle.tf_compaction.specs.Compaction.{IsCompacted, IsMergedOut};
+ghost use Rattle.tf_compaction.specs.Compaction.{IsCompacted, IsMergedOut, KeepsRest};
 ghost use Rattle.tf_manifest.specs.declared.kind.Kind.{Kind};
 ghost use Rattle.tf_manifest.specs.declared.row.Row.{Row};
 ghost use Rattle.tf_manifest.specs.Jobs.{IsPickedFrom, StandsIn, kind_of_merged};
@@ -67,6 +67,7 @@ where
     C: StoredCopies + Drop,
     requires { StandsIn store.old.forest.sealed.tables merged }
     ensures compacted { IsCompacted store.old.forest store.new.forest result }
+    ensures rest { KeepsRest store.old store.new }
     ensures others { (other : Kind) → other ≢ kind_of_merged merged → tables_by store.new.forest.sealed.tables other ≡ tables_by store.old.forest.sealed.tables other }
     ensures pushed { OnOk result (store.new.forest.sealed.tables.pushed.count ≡ store.old.forest.sealed.tables.pushed.count + 1) }
     ensures room { OnOk result (store.old.forest.sealed.tables.pushed.count < store.old.forest.sealed.tables.pushed.limit) }
@@ -89,6 +90,7 @@ where
     C: StoredCopies + Drop,
     requires { IsPickedFrom store.old.forest.sealed.tables row job.now }
     ensures compacted { IsCompacted store.old.forest store.new.forest result }
+    ensures rest { KeepsRest store.old store.new }
     ensures others { KeepsOthers row store.old.forest.sealed.tables store.new.forest.sealed.tables }
     ensures pushed { OnOk result (store.new.forest.sealed.tables.pushed.count ≡ store.old.forest.sealed.tables.pushed.count + 1) }
     ensures room { OnOk result (store.old.forest.sealed.tables.pushed.count < store.old.forest.sealed.tables.pushed.limit) }
@@ -112,6 +114,7 @@ where
     S: StoreName,
     C: StoredCopies + Drop,
     ensures compacted { IsCompacted store.old.forest store.new.forest result }
+    ensures rest { KeepsRest store.old store.new }
     ensures others { KeepsOthers row store.old.forest.sealed.tables store.new.forest.sealed.tables }
     ensures last { IfOk result (λ merged. merged ≡ false → IsMergedOut store.new.forest row) }
     ensures pushed { IfOk result (λ merged. IsTrue merged → store.new.forest.sealed.tables.pushed.count ≡ store.old.forest.sealed.tables.pushed.count + 1) }
@@ -143,6 +146,7 @@ where
     S: StoreName,
     C: StoredCopies + Drop,
     ensures compacted { IsCompacted store.old.forest store.new.forest result }
+    ensures rest { KeepsRest store.old store.new }
     ensures others { KeepsOthers row store.old.forest.sealed.tables store.new.forest.sealed.tables }
     ensures merged { OnOk result (IsMergedOut store.new.forest row) }
 {
@@ -170,6 +174,7 @@ where
     S: StoreName,
     C: StoredCopies + Drop,
     ensures compacted { IsCompacted store.old.forest store.new.forest result }
+    ensures rest { KeepsRest store.old store.new }
     ensures merged { OnOk result ((row : Row) → IsMergedOut store.new.forest row) }
 {
     for number in 0..Row::ALL.len() {
@@ -195,6 +200,7 @@ where
     S: StoreName,
     C: VersionCopies<Version<A, S>, S> + Drop,
     ensures compacted { IsCompacted store.old.forest store.new.forest result }
+    ensures rest { KeepsRest store.old store.new }
     ensures merged { OnOk result ((row : Row) → IsMergedOut store.new.forest row) }
 {
     match compact_rows(rt, alloc, store) {

@@ -20,3 +20,12 @@ returns-clause-room g c = answered_as c.installed.result c.install.result _ c.in
 
 pub returns-clause-others : goal.returns-clause-others
 returns-clause-others g c = others_left_by c.args.store.now c.install.new.self c.args.merged c.install.result c.install.ensures.installs c.install.ensures.err
+
+pub returns-clause-rest : goal.returns-clause-rest
+returns-clause-rest g c = record {
+  receipts = c.install.ensures.waiting;
+  readable = c.install.ensures.readable;
+  fresh = c.install.ensures.entries.0;
+  waiting = c.install.ensures.entries.1;
+  kept = c.install.ensures.length_kept;
+}
