@@ -1,6 +1,6 @@
 -- What is left of a batch, chain by chain.
-use Rattle.std.proofs.Common.{◌≡◌, ℕ, ◌+◌, List, [], ◌∷◌, ◌++◌, subst, sym, ap, arith, drop, take, append_assoc, refl, ◌∙◌}
-use Rattle.std.proofs.lemmas.List.{drop-drop}
+use Rattle.std.proofs.Common.{◌≡◌, ℕ, ◌+◌, ◌≤◌, List, [], ◌∷◌, ◌++◌, subst, sym, ap, arith, drop, length, take, append_assoc, refl, ◌∙◌}
+use Rattle.std.proofs.lemmas.List.{drop-drop, drop_all}
 use Rattle.tf_records.specs.declared.reply.Failure.{Failure}
 use Rattle.tf_journal.specs.declared.entry.Entry.{Entry}
 use Rattle.tf_events.specs.Batch.{chains_of, chains_step, placed}
@@ -24,6 +24,11 @@ chains_step-append kind journal (chain ∷ chains) more =
 -- the step of the events from this place on
 abbrev pub left_from : {E : Type 0} → Kind E → List Entry → ℕ → ℕ → List E → Step
 left_from kind journal before start events = chains_step kind journal (chains_of kind (placed start (before + start + 1) (drop start events)))
+
+-- behind the last event nothing is left
+pub left_none : {E : Type 0} (kind : Kind E) (journal : List Entry) (before start : ℕ) (events : List E) → length events ≤ start
+    → left_from kind journal before start events ≡ record { journal = journal; failures = [] }
+left_none kind journal before start events past = ap (λ es. chains_step kind journal (chains_of kind (placed start (before + start + 1) es))) (drop_all start events past)
 
 -- one more chain: what is stored and noted, followed by the step of what is left, stays the whole
 pub left_more : {E : Type 0} (kind : Kind E) (journal after : List Entry) (before start n : ℕ) (events rest : List E) (failures noted : List Failure) (whole : Step)

@@ -1,11 +1,13 @@
 -- The events of a chain, stored one after another.
-use Rattle.std.proofs.Common.{◌≡◌, ℕ, ◌+◌, ◌<◌, ◌≤◌, List, [], ◌∷◌, ◌++◌, Option, Some, None, true, subst, sym, ap, arith, drop, take, length, get_or, append_assoc, append-nil, refl, ◌∙◌, ◌≢◌, eq-eqb, ne_eqb, IfSome, Result, Ok, Err, OnOk}
+use Rattle.std.proofs.Common.{◌≡◌, ℕ, ◌+◌, ◌<◌, ◌≤◌, List, [], ◌∷◌, ◌++◌, Option, Some, None, false, true, subst, sym, ap, arith, drop, take, length, get_or, append_assoc, append-nil, refl, ◌∙◌, ◌≢◌, eq-eqb, ne_eqb, IfErr, IfSome, Result, Ok, Err, OnOk}
 use Rattle.std.proofs.lemmas.List.{drop_more, take_at}
 use Rattle.std.proofs.lemmas.List.Elements.{All-nil, All-weaker}
 use Rattle.std.specs.List.{All}
-use Rattle.std.specs.Option.{option_map}
+use Rattle.std.specs.Option.{is_some, option_map}
 use Rattle.tf_records.specs.declared.outcome.Outcome.{Outcome}
 use Rattle.tf_records.specs.declared.outcome.Outcome.TheVariants as outcome
+use Rattle.tf_records.specs.declared.refusal.Refusal.{Refusal}
+use Rattle.tf_records.specs.declared.refusal.Refusal.TheVariants.{NoMemory}
 use Rattle.tf_records.specs.declared.reply.Failure.{Failure}
 use Rattle.tf_journal.specs.declared.entry.Entry.{Entry}
 use Rattle.tf_journal.specs.Journal.{timestamp_of, last_timestamp}
@@ -14,8 +16,8 @@ use Rattle.tf_journal.specs.Ledger.{CanGrow}
 use Rattle.tf_journal.specs.Verdict.{is_accepted}
 use Rattle.tf_journal.proofs.Sound.{journal_push, sound_push, up_to_later, up_to_push}
 use Rattle.tf_events.specs.Batch.{placed}
-use Rattle.tf_events.specs.Chain.{Kind, OwnFailure, entries_left, failures_of, first_failure, outcome_in, with_events}
-use Rattle.tf_events.specs.Walk.{Extends, IsAccepted, IsSoundAt, KeepsEvents, own_failure_of}
+use Rattle.tf_events.specs.Chain.{Chain, Kind, OwnFailure, Placed, Step, chain_step, entries_left, failed_step, failures_of, first_failure, outcome_in, step_of_chain, with_events}
+use Rattle.tf_events.specs.Walk.{Extends, GoesOn, IsAccepted, IsSoundAt, IsStepTaken, KeepsEvents, own_failure_of}
 use Rattle.tf_events.specs.declared.own_fault.OwnFault.{OwnFault}
 
 -- the events from one on are that one and those behind it
@@ -124,6 +126,62 @@ accepted_sound kind keeps before journal timestamp e entry sound accepted later 
 -- cutting a longer journal back to where it began
 pub cut_back : (journal longer : List Entry) (n : ℕ) → n ≡ length journal → Extends journal longer → take n longer ≡ journal
 cut_back journal longer n is extends = rw (extends.is) (take_at journal extends.more n (sym is))
+
+-- a journal that was cut back to where it began goes on with what was stored since
+pub goes_on_back : {L X Y Z : Type 0} (journal_of : L → List Entry) (clock_of kept_of : L → ℕ) (old stored back new : L)
+    (first : Result X Refusal) (second : Result Y Refusal) (result : Result Z Refusal) (n : ℕ)
+    → GoesOn journal_of clock_of kept_of old stored first → journal_of back ≡ take n (journal_of stored) → n ≡ length (journal_of old)
+    → clock_of back ≡ clock_of stored → kept_of back ≡ kept_of stored → GoesOn journal_of clock_of kept_of back new second
+    → IfErr result (λ refusal. refusal ≡ NoMemory) → GoesOn journal_of clock_of kept_of old new result
+goes_on_back journal_of clock_of kept_of old stored back new first second result n before cut present clock kept after refusal = record {
+  extends = subst (λ j. Extends j (journal_of new)) (cut ∙ cut_back (journal_of old) (journal_of stored) n present before.extends) after.extends;
+  refusal = refusal;
+  clock = after.clock ∙ clock ∙ before.clock;
+  kept = after.kept ∙ kept ∙ before.kept;
+}
+
+-- of a chain that is open nothing is stored but what its failed event leaves
+failed_if_open : {E : Type 0} (kind : Kind E) (journal : List Entry) (chain : Chain E) (own : Option (OwnFailure E)) (end : Placed E)
+    → step_of_chain kind journal chain own (Some end) ≡ failed_step kind journal chain own
+failed_if_open kind journal chain None end = refl
+failed_if_open kind journal chain (Some own) end = refl
+
+pub open_taken : {E : Type 0} (kind : Kind E) (journal stored back left : List Entry) (n : ℕ) (events : List (Placed E)) (end : Placed E) (own : Option (OwnFailure E))
+    (before noted told : List Failure)
+    → own ≡ first_failure kind journal events → back ≡ take n stored → n ≡ length journal → Extends journal stored → left ≡ back ++ entries_left kind own
+    → noted ≡ before ++ failures_of own events → told ≡ noted ++ record { index = end.index; outcome = outcome.LinkedEventChainOpen } ∷ []
+    → IsStepTaken (chain_step kind journal (record { events = events; open_end = Some end })) left before told
+open_taken kind journal stored back left n events end own before noted told first cut present extends stays notes tells =
+    let chain : Chain _ = record { events = events; open_end = Some end } in
+    let step : chain_step kind journal chain ≡ failed_step kind journal chain own =
+    ap (λ o. step_of_chain kind journal chain o (Some end)) (sym first) ∙ failed_if_open kind journal chain own end in
+    subst (λ (s : Step). IsStepTaken s left before told) (sym step) (record {
+      stored = stays ∙ ap (λ j. j ++ entries_left kind own) (cut ∙ cut_back journal stored n present extends);
+      failures = tells ∙ ap (λ f. f ++ record { index = end.index; outcome = outcome.LinkedEventChainOpen } ∷ []) notes
+          ∙ append_assoc before (failures_of own events) (record { index = end.index; outcome = outcome.LinkedEventChainOpen } ∷ []);
+    })
+
+-- nor of one with an event that failed, and all of one without
+pub closed_taken : {E : Type 0} (kind : Kind E) (journal stored back left : List Entry) (n : ℕ) (events : List (Placed E)) (own : Option (OwnFault E))
+    (before noted : List Failure)
+    → is_some own ≡ true → option_map own_failure_of own ≡ first_failure kind journal events → back ≡ take n stored → n ≡ length journal → Extends journal stored
+    → left ≡ back ++ entries_left kind (option_map own_failure_of own) → noted ≡ before ++ failures_of (option_map own_failure_of own) events
+    → IsStepTaken (chain_step kind journal (record { events = events; open_end = None })) left before noted
+closed_taken kind journal stored back left n events None before noted failed first cut present extends stays notes = absurd (cc)
+closed_taken kind journal stored back left n events (Some o) before noted failed first cut present extends stays notes =
+    let own = Some (own_failure_of o) in
+    subst (λ own. IsStepTaken (step_of_chain kind journal (record { events = events; open_end = None }) own None) left before noted) first (record {
+      stored = stays ∙ ap (λ j. j ++ entries_left kind own) (cut ∙ cut_back journal stored n present extends);
+      failures = notes ∙ ap (λ f. before ++ f) (sym (append-nil (failures_of own events)));
+    })
+
+pub closed_stored : {E : Type 0} (kind : Kind E) (journal stored : List Entry) (events : List (Placed E)) (own : Option (OwnFault E)) (before : List Failure)
+    → is_some own ≡ false → option_map own_failure_of own ≡ first_failure kind journal events → (own ≡ None → stored ≡ with_events kind journal events)
+    → IsStepTaken (chain_step kind journal (record { events = events; open_end = None })) stored before before
+closed_stored kind journal stored events (Some o) before fine first all = absurd (cc)
+closed_stored kind journal stored events None before fine first all =
+    subst (λ own. IsStepTaken (step_of_chain kind journal (record { events = events; open_end = None }) own None) stored before before) first
+    (record { stored = all refl; failures = sym (append-nil before) })
 
 -- a sound journal can grow by what the event that failed by itself leaves
 pub left_grows : {E : Type 0} (kind : Kind E) (keeps : KeepsEvents kind) (before moment : ℕ) (journal : List Entry) (own : Option (OwnFault E))

@@ -1,8 +1,8 @@
 -- Transfers that are read part by part and tested.
-use Rattle.std.proofs.Common.{◌≡◌, ◌∙◌, sym, refl, ap, ℕ, zero, suc, ◌+◌, ◌-◌, ◌<◌, ◌≤◌, arith, List, [], ◌∷◌, ◌++◌, append_assoc, get_or, length, take, drop, Option}
+use Rattle.std.proofs.Common.{◌≡◌, ◌⊎◌, inl, inr, ◌∙◌, sym, refl, ap, ℕ, zero, suc, ◌+◌, ◌-◌, ◌<◌, ◌≤◌, arith, List, [], ◌∷◌, ◌++◌, append_assoc, get_or, length, take, drop, Option}
 use Rattle.std.specs.List.{filter_map}
 use Rattle.std.specs.Option.{option_to_list}
-use Rattle.std.proofs.lemmas.List.{length-take, take-append-drop, take_at}
+use Rattle.std.proofs.lemmas.List.{append-nil, length-append, length-take, length-take-le, take-append-drop, take_all, take_at}
 use Rattle.std.proofs.lemmas.List.Elements.{filter_map-append}
 use Rattle.tf_manifest.specs.View.{View}
 use Rattle.tf_records.specs.declared.transfer.Transfer.{Transfer}
@@ -76,3 +76,15 @@ module _ (view : View) (residual : Residual) (d : Direction) (w : Window) where
 
   pub tested-next : (last count asked : ℕ) (part : List ℕ) (rows more : List Transfer) (old new whole : List ℕ) → AreTested view residual d w last asked rows old whole → IsPart d w asked count part old new → asked ≤ length part → more ≡ take w.most (rows ++ found (take count part)) → AreTested view residual d w count asked more new whole
   tested-next last count asked part rows more old new whole t p wide m = tested-more count asked part rows more old new whole t.joined p wide m
+
+  -- where the last part isn't full, or there are as many rows as are asked for, they are all
+  pub tested-all : (count asked : ℕ) (rows : List Transfer) (left whole : List ℕ) → AreTested view residual d w count asked rows left whole → (count < asked) ⊎ (w.most ≤ length rows) → rows ≡ first_passing view residual w whole
+  tested-all count asked rows left whole t h = sym (ended h) ∙ t.joined
+    where
+      ended : (count < asked) ⊎ (w.most ≤ length rows) → take w.most (rows ++ found (all_within w left)) ≡ rows
+      ended (inl l) = ap (λ ts. take w.most (rows ++ found ts)) (t.ends l) ∙ ap (take w.most) (append-nil rows) ∙ take_all w.most rows t.few
+      ended (inr m) = take_at rows (found (all_within w left)) w.most (omega (arith, t.few))
+
+-- a part takes just as many out of those in a window
+pub left-behind : (d : Direction) (w : Window) (most count : ℕ) (part old new : List ℕ) → IsPart d w most count part old new → length (all_within w new) + count ≡ length (all_within w old)
+left-behind d w most count part old new p = omega (arith, ap length p.whole, length-append (take count part) (all_within w new), length-take-le count part p.inside)

@@ -1,10 +1,11 @@
-use Rattle.std.proofs.Common.{◌≡◌, ◌+◌, ◌-◌, ◌<◌, ◌≤◌, ◌∙◌, arith, drop, length, subst, sym, take}
+use Rattle.std.proofs.Common.{◌≡◌, ◌+◌, ◌++◌, ◌-◌, ◌<◌, ◌≤◌, ◌∙◌, ap, append-nil, arith, drop, length, rules, subst, sym, take}
 use Rattle.std.proofs.lemmas.List.{length-drop, take_rest}
 use Rattle.tf_journal.specs.Lawful.{AreChained}
 use Rattle.tf_events.specs.Batch.{chains_of, chains_step, placed}
+use Rattle.tf_events.specs.Chain.{Step}
 use Rattle.tf_events.proofs.Chained.{chained_one}
 use Rattle.tf_events.proofs.Cuts.{chain_length-some, chain_length-within, first_chain_length, first_chain_one}
-use Rattle.tf_events.proofs.Left.{extends_more, left_more}
+use Rattle.tf_events.proofs.Left.{extends_more, left_more, left_none}
 use Rattle.tf_events.proofs.Stored.{sound_at_later}
 use Rattle.tf_events.proofs.batch.run_events.Goals as goal
 
@@ -80,3 +81,29 @@ loop-start-preserved g c =
       kept = ran.goes_on.kept ∙ so_far.kept;
       rest = ran.rest ∙ so_far.rest;
     }
+
+pub returns-in_err-run_chain-clause-goes_on : goal.returns-in_err-run_chain-clause-goes_on
+returns-in_err-run_chain-clause-goes_on g c =
+    let first = g.L.Ledger.journal c.args.ledger.now in
+    let journal = g.L.Ledger.journal c.loop-start.ledger in
+    let so_far = c.loop-start.invariant in
+    let ran = c.run_chain.ensures.goes_on in
+    record {
+      extends = extends_more first journal (g.L.Ledger.journal c.run_chain.new.ledger) so_far.extends ran.extends;
+      refusal = search rules;
+      clock = ran.clock ∙ so_far.clock;
+      kept = ran.kept ∙ so_far.kept;
+    }
+
+pub returns-clause-stored : goal.returns-clause-stored
+returns-clause-stored g c =
+    let journal = g.L.Ledger.journal c.loop-start.ledger in
+    sym (ap (λ (s : Step). s.journal) (left_none g.E.Event.kind journal c.args.before c.loop-start.start c.args.events.now (omega (arith, c.loop-start-test.false))))
+    ∙ c.loop-start.invariant.stored
+
+pub returns-clause-noted : goal.returns-clause-noted
+returns-clause-noted g c =
+    let journal = g.L.Ledger.journal c.loop-start.ledger in
+    let noted = c.loop-start.failures.items in
+    let none = left_none g.E.Event.kind journal c.args.before c.loop-start.start c.args.events.now (omega (arith, c.loop-start-test.false)) in
+    sym (ap (λ (s : Step). noted ++ s.failures) none ∙ append-nil noted) ∙ c.loop-start.invariant.noted

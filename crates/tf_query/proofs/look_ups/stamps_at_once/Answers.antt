@@ -1,6 +1,6 @@
-use Rattle.std.proofs.Common.{◌∙◌, None, ap, arith, get_or}
+use Rattle.std.proofs.Common.{◌≡◌, ◌∙◌, None, ap, arith, get_or, length, map, subst, take}
 use Rattle.std.specs.Option.{option_and_then, option_copied, option_flatten}
-use Rattle.std.proofs.lemmas.List.{length-set}
+use Rattle.std.proofs.lemmas.List.{length-set, take_all}
 use Rattle.tf_table.specs.Content.{entry_of}
 use Rattle.tf_manifest.specs.declared.kind.Kind.TheVariants as kind
 use Rattle.tf_registry.specs.Row.{content_at, lists_of}
@@ -19,3 +19,13 @@ loop-place-preserved g c =
       found = same-ahead (transfer_stamp_in c.args.manifest.now) c.loop-place.stamps c.stamp_of.result ids c.loop-place.place 0 (omega (arith, c.loop-place.invariant.wide)) (omega arith) stamp c.loop-place.invariant.found;
       wide = length-set c.loop-place.stamps c.loop-place.place _ ∙ c.loop-place.invariant.wide;
     }
+
+pub row-requires : goal.row-requires
+row-requires g c = omega (arith, c.manifest.invariant.1.ids)
+
+pub returns : goal.returns
+returns g c =
+    let ids = c.args.ids.now in
+    let stamp = transfer_stamp_in c.args.manifest.now in
+    let all : c.loop-place.place ≡ length ids = omega arith in
+    subst (λ n. take n c.loop-place.stamps ≡ map stamp (take n ids)) all c.loop-place.invariant.found ∙ ap (map stamp) (take_all (length ids) ids (omega arith))

@@ -1,6 +1,8 @@
-use Rattle.std.proofs.Common.{◌∙◌, arith, length, take}
+use Rattle.std.proofs.Common.{◌++◌, ◌∙◌, ap, arith, length, take}
+use Rattle.std.specs.List.{filter_map}
 use Rattle.std.specs.Option.{option_and_then, option_copied}
 use Rattle.std.proofs.lemmas.List.{length-take}
+use Rattle.std.proofs.lemmas.Result.{IfOk-from_err}
 use Rattle.tf_query.specs.Reads.{transfer_stamp_in, transfer_in}
 use Rattle.tf_query.proofs.Ahead.{more-ahead}
 use Rattle.tf_query.proofs.look_ups.transfers.Goals as goal
@@ -15,3 +17,29 @@ loop-rest-preserved g c =
       room = c.push_records.ensures.room ∙ c.loop-rest.invariant.room;
       tables = c.transfers_ahead-found.ensures.tables;
     }
+
+pub returns-in_err-rows-clause-ok : goal.returns-in_err-rows-clause-ok
+returns-in_err-rows-clause-ok g c = IfOk-from_err _ _ c.from_residual.ensures.0
+
+pub returns-in_err-rows-clause-room : goal.returns-in_err-rows-clause-room
+returns-in_err-rows-clause-room g c = IfOk-from_err _ _ c.from_residual.ensures.0
+
+pub loop-rest-init : goal.loop-rest-init
+loop-rest-init g c = record {
+  found = ap (λ rows. rows ++ filter_map (λ id. option_and_then (transfer_in c.args.manifest.now) (transfer_stamp_in c.args.manifest.now id)) c.args.ids.now) c.in_ok-rows.ensures.items;
+  few = omega (arith, c.in_ok-rows.ensures.len);
+  room = c.in_ok-rows.ensures.exact;
+  tables = c.in_ok-tables.ensures.ok;
+}
+
+pub split_at-requires : goal.split_at-requires
+split_at-requires g c = omega (arith, c.min.ensures)
+
+pub push_records-requires : goal.push_records-requires
+push_records-requires g c = omega (arith, length-take (length c.split_at.result.0.now) c.transfers_ahead-found.result, c.split_at.ensures.front_len, c.split_at.ensures.back_len, c.loop-rest.invariant.few, c.loop-rest.invariant.room)
+
+pub returns-clause-room : goal.returns-clause-room
+returns-clause-room g c = c.loop-rest.invariant.room
+
+pub returns-clause-refusal : goal.returns-clause-refusal
+returns-clause-refusal g c = tt

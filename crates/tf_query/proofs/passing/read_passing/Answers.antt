@@ -1,8 +1,70 @@
-use Rattle.std.proofs.Common.{◌≡◌, ◌∙◌, arith, vec_capacity}
+use Rattle.std.proofs.Common.{◌≡◌, ◌∙◌, arith, inl, inr, subst, sym, vec_capacity}
+use Rattle.std.proofs.lemmas.List.{length-take-le}
+use Rattle.std.proofs.lemmas.Result.{IfOk-from_err}
+use Rattle.tf_scan.specs.declared.direction.Direction.{Direction}
+use Rattle.tf_query.specs.Reading.{AreFrom}
 use Rattle.tf_query.proofs.Reading.{part-in}
-use Rattle.tf_query.proofs.Testing.{tested-first, tested-next}
+use Rattle.tf_query.proofs.Testing.{left-behind, tested-all, tested-first, tested-next}
 use Rattle.tf_query.proofs.passing.read_passing.Goals as goal
-use Rattle.tf_query.proofs.passing.read_passing.Goals.{else-count-asked, then-count-asked}
+use Rattle.tf_query.proofs.passing.read_passing.Goals.{else-count-asked, else-loop-count-test, then-count-asked, then-loop-count-test+else-len-window}
+
+pub read_part-count-requires : goal.read_part-count-requires
+read_part-count-requires g c = subst (λ (d : Direction). AreFrom d c.args.window.now c.seek_first.new.scan.left) (sym c.seek_first.ensures.direction) c.seek_first.ensures.from
+
+pub slice_bounds-push_passing-end : goal.slice_bounds-push_passing-end
+slice_bounds-push_passing-end g c = sym (length-take-le c.read_part-count.result _ c.read_part-count.ensures.part.inside)
+
+pub push_passing-requires-clause-few : goal.push_passing-requires-clause-few
+push_passing-requires-clause-few g c = omega (arith, c.in_ok-rows.ensures.len)
+
+pub push_passing-requires-clause-room : goal.push_passing-requires-clause-room
+push_passing-requires-clause-room g c =
+    let long = length-take-le c.read_part-count.result _ c.read_part-count.ensures.part.inside in
+    elim c.if-count-asked.branch [
+      | then-count-asked w ↦ omega (arith, long, c.in_ok-rows.ensures.len, c.in_ok-rows.ensures.exact, w.room-is)
+      | else-count-asked w ↦ omega (arith, c.in_ok-rows.ensures.exact, w.room-is)
+    ]
+
+pub returns-in_err-rows-clause-ok : goal.returns-in_err-rows-clause-ok
+returns-in_err-rows-clause-ok g c = IfOk-from_err _ _ c.from_residual.ensures.0
+
+pub returns-in_err-rows-clause-in_order : goal.returns-in_err-rows-clause-in_order
+returns-in_err-rows-clause-in_order g c = c.seek_first.ensures.in_order
+
+pub returns-in_err-rows-clause-room : goal.returns-in_err-rows-clause-room
+returns-in_err-rows-clause-room g c = IfOk-from_err _ _ c.from_residual.ensures.0
+
+pub read_part-count-requires-in-loop-count : goal.read_part-count-requires-in-loop-count
+read_part-count-requires-in-loop-count g c = subst (λ (d : Direction). AreFrom d c.args.window.now c.loop-count.scan.left) (sym c.loop-count.invariant.direction) c.loop-count.invariant.tested.left_from
+
+pub slice_bounds-push_passing-end-in-loop-count : goal.slice_bounds-push_passing-end-in-loop-count
+slice_bounds-push_passing-end-in-loop-count g c = sym (length-take-le c.read_part-count-in-loop-count.result _ c.read_part-count-in-loop-count.ensures.part.inside)
+
+pub push_passing-requires-in-loop-count-clause-few : goal.push_passing-requires-in-loop-count-clause-few
+push_passing-requires-in-loop-count-clause-few g c = omega (arith, c.loop-count.rows.ok.0, c.loop-count.invariant.tested.few)
+
+pub push_passing-requires-in-loop-count-clause-room : goal.push_passing-requires-in-loop-count-clause-room
+push_passing-requires-in-loop-count-clause-room g c = omega (arith, c.loop-count.invariant.enough c.loop-count-test.true)
+
+pub loop-count-smaller : goal.loop-count-smaller
+loop-count-smaller g c = omega (arith, left-behind _ _ _ _ _ _ _ c.read_part-count-in-loop-count.ensures.part)
+
+pub returns-clause-ok : goal.returns-clause-ok
+returns-clause-ok g c =
+    let tested = c.loop-count.invariant.tested in
+    tested-all _ _ _ _ _ _ _ _ _ tested (elim c.loop-count-test.branch [
+      | then-loop-count-test+else-len-window w ↦ inr (omega (arith, w.len.ensures, w.if-len-window.false))
+      | else-loop-count-test w ↦ inl (omega (arith, tested.inside, w.loop-count-test.false))
+    ])
+
+pub returns-clause-in_order : goal.returns-clause-in_order
+returns-clause-in_order g c = c.seek_first.ensures.in_order
+
+pub returns-clause-room : goal.returns-clause-room
+returns-clause-room g c = c.loop-count.invariant.room
+
+pub returns-clause-refusal : goal.returns-clause-refusal
+returns-clause-refusal g c = tt
 
 pub loop-count-init : goal.loop-count-init
 loop-count-init g c =

@@ -1,4 +1,7 @@
-use Rattle.std.proofs.Common.{arith, ◌∙◌}
+use Rattle.std.proofs.Common.{ap, arith, ◌∙◌}
+use Rattle.std.specs.List.{filter_map}
+use Rattle.std.proofs.lemmas.List.{take_all}
+use Rattle.std.proofs.lemmas.Result.{IfOk-from_err}
 use Rattle.tf_query.specs.Reads.{shown_in}
 use Rattle.tf_query.proofs.Found.{more-found}
 use Rattle.tf_query.proofs.reads.accounts_at.Goals as goal
@@ -9,3 +12,21 @@ loop-timestamp-preserved g c = record {
   few = omega (arith, c.push_found.ensures.len, c.loop-timestamp.invariant.few);
   room = c.push_found.ensures.room ∙ c.loop-timestamp.invariant.room;
 }
+
+pub returns-in_err-rows-clause-ok : goal.returns-in_err-rows-clause-ok
+returns-in_err-rows-clause-ok g c = IfOk-from_err _ _ c.from_residual.ensures.0
+
+pub returns-in_err-rows-clause-room : goal.returns-in_err-rows-clause-room
+returns-in_err-rows-clause-room g c = IfOk-from_err _ _ c.from_residual.ensures.0
+
+pub push_found-requires : goal.push_found-requires
+push_found-requires g c = omega (arith, c.loop-timestamp-test.true, c.loop-timestamp.invariant.few, c.loop-timestamp.invariant.room)
+
+pub returns-clause-ok : goal.returns-clause-ok
+returns-clause-ok g c = c.loop-timestamp.invariant.found ∙ ap (filter_map (shown_in c.args.manifest.now)) (take_all c.loop-timestamp.timestamp-index c.args.timestamps.now c.loop-timestamp-test.false)
+
+pub returns-clause-room : goal.returns-clause-room
+returns-clause-room g c = c.loop-timestamp.invariant.room
+
+pub returns-clause-refusal : goal.returns-clause-refusal
+returns-clause-refusal g c = tt

@@ -1,8 +1,12 @@
-use Rattle.std.proofs.Common.{◌∙◌, ap, arith, length, map, take}
+use Rattle.std.proofs.Common.{◌++◌, ◌∙◌, ap, arith, length, map, take}
+use Rattle.std.specs.List.{filter_map}
 use Rattle.std.specs.Option.{option_copied}
 use Rattle.std.proofs.lemmas.List.{length-take}
+use Rattle.std.proofs.lemmas.Result.{IfOk-from_err}
 use Rattle.tf_registry.specs.Row.{content_at}
+use Rattle.tf_manifest.specs.declared.kind.Kind.TheVariants as kind
 use Rattle.tf_manifest.specs.Rows.{key_of}
+use Rattle.tf_manifest.specs.View.{View, tables_by}
 use Rattle.tf_query.specs.Reads.{stored_record, transfer_in}
 use Rattle.tf_query.proofs.Ahead.{more-ahead}
 use Rattle.tf_query.proofs.reads.transfers_at.Goals as goal
@@ -18,3 +22,32 @@ loop-transfers-preserved g c =
       tables = c.find_transfers-found.ensures.same ∙ c.loop-transfers.invariant.tables;
       room = c.push_records.ensures.room ∙ c.loop-transfers.invariant.room;
     }
+
+pub row-requires : goal.row-requires
+row-requires g c = omega (arith, c.manifest.invariant.1.transfers)
+
+pub returns-in_err-rows-clause-ok : goal.returns-in_err-rows-clause-ok
+returns-in_err-rows-clause-ok g c = IfOk-from_err _ _ c.from_residual.ensures.0
+
+pub returns-in_err-rows-clause-room : goal.returns-in_err-rows-clause-room
+returns-in_err-rows-clause-room g c = IfOk-from_err _ _ c.from_residual.ensures.0
+
+pub loop-transfers-init : goal.loop-transfers-init
+loop-transfers-init g c = record {
+  found = ap (λ rows. rows ++ filter_map (transfer_in c.args.manifest.now) c.args.timestamps.now) c.in_ok-rows.ensures.items;
+  few = omega (arith, c.in_ok-rows.ensures.len);
+  tables = c.new-transfers.ensures ∙ c.row.ensures.row ∙ ap (λ (v : View). tables_by v kind.Transfer) c.manifest.view_is;
+  room = c.in_ok-rows.ensures.exact;
+}
+
+pub split_at-requires : goal.split_at-requires
+split_at-requires g c = omega (arith, c.min.ensures)
+
+pub push_records-requires : goal.push_records-requires
+push_records-requires g c = omega (arith, length-take (length c.split_at.result.0.now) c.find_transfers-found.result, c.split_at.ensures.front_len, c.split_at.ensures.back_len, c.loop-transfers.invariant.few, c.loop-transfers.invariant.room)
+
+pub returns-clause-room : goal.returns-clause-room
+returns-clause-room g c = c.loop-transfers.invariant.room
+
+pub returns-clause-refusal : goal.returns-clause-refusal
+returns-clause-refusal g c = tt

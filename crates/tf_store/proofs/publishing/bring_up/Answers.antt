@@ -1,12 +1,12 @@
 use mathlib.Core.List.{IsPrefix}
-use Rattle.std.proofs.Common.{◌≡◌, ◌∙◌, ◌≤◌, Some, None, length, sym, subst, ap, arith}
-use Rattle.std.proofs.lemmas.Result.{err_from_is_err_and}
+use Rattle.std.proofs.Common.{◌≡◌, ◌∙◌, ◌≤◌, Some, None, length, refl, sym, subst, ap, arith}
+use Rattle.std.proofs.lemmas.Result.{IfOk-from_err, err_from_is_err_and}
 use Rattle.tf_journal.specs.Lawful.{IsLawful}
 use Rattle.tf_manifest.specs.View.{ShowsJournal, View as Tables}
 use Rattle.tf_forest.specs.Forest.{View}
 use Rattle.tf_store.specs.Public.{PublicView, all_public}
 use Rattle.tf_store.proofs.Kept.{no_longer}
-use Rattle.tf_store.proofs.Published.{IsPrepared, all_is_seen, all_shown, idle_publish, memory_not_full, refused_as, refused_publish, settled_publish, some_there}
+use Rattle.tf_store.proofs.Published.{IsPrepared, all_is_seen, all_shown, idle_publish, memory_not_full, refused_as, refused_publish, settled_publish, some_there, whatever_err}
 use Rattle.tf_store.proofs.publishing.bring_up.Goals as goal
 
 pub returns-in_err-prepared-clause-publish : goal.returns-in_err-prepared-clause-publish
@@ -106,3 +106,36 @@ returns-in-Err-clause-begins g c = c.in-Err.ensures.begins
 
 pub returns-in-Err-clause-parts : goal.returns-in-Err-clause-parts
 returns-in-Err-clause-parts g c = c.prepare.ensures.parts
+
+pub returns-in_err-prepared-clause-version : goal.returns-in_err-prepared-clause-version
+returns-in_err-prepared-clause-version g c = IfOk-from_err _ _ c.from_residual.ensures.0
+
+pub returns-in_err-prepared-clause-all : goal.returns-in_err-prepared-clause-all
+returns-in_err-prepared-clause-all g c = IfOk-from_err _ _ c.from_residual.ensures.0
+
+pub returns-in_err-prepared-clause-idle : goal.returns-in_err-prepared-clause-idle
+returns-in_err-prepared-clause-idle g c = IfOk-from_err _ _ c.from_residual.ensures.0
+
+pub returns-in_err-prepared-clause-uncounted : goal.returns-in_err-prepared-clause-uncounted
+returns-in_err-prepared-clause-uncounted g c = IfOk-from_err _ _ c.from_residual.ensures.0
+
+pub returns-in_err-prepared-clause-same : goal.returns-in_err-prepared-clause-same
+returns-in_err-prepared-clause-same g c = IfOk-from_err _ _ c.from_residual.ensures.0
+
+pub returns-in_err-prepared-clause-refused : goal.returns-in_err-prepared-clause-refused
+returns-in_err-prepared-clause-refused g c = whatever_err c.from_residual.result (refl, refl)
+
+pub returns-in_err-prepared-clause-parts : goal.returns-in_err-prepared-clause-parts
+returns-in_err-prepared-clause-parts g c = whatever_err c.from_residual.result c.prepare.ensures.parts
+
+pub returns-in_default-clause-same : goal.returns-in_default-clause-same
+returns-in_default-clause-same g c = refl
+
+pub returns-in-Ok-clause-further : goal.returns-in-Ok-clause-further
+returns-in-Ok-clause-further g c = c.in-Ok.ensures.further
+
+pub returns-in-Err-clause-further : goal.returns-in-Err-clause-further
+returns-in-Err-clause-further g c = c.in-Err.ensures.further
+
+pub returns-in-Err-clause-refused : goal.returns-in-Err-clause-refused
+returns-in-Err-clause-refused g c = c.in-Err.ensures.refused

@@ -121,3 +121,50 @@ returns-in-Err-clause-parts g c = c.prepare.ensures.parts
 
 pub returns-in-Err-clause-still : goal.returns-in-Err-clause-still
 returns-in-Err-clause-still g c = c.prepare.ensures.still
+
+pub returns-in-Ok-Some-clause-fits : goal.returns-in-Ok-Some-clause-fits
+returns-in-Ok-Some-clause-fits g c = c.in-Ok-Some.ensures.fits
+
+pub returns-in-Ok-Some-clause-full : goal.returns-in-Ok-Some-clause-full
+returns-in-Ok-Some-clause-full g c = λ full. absurd (cc)
+
+pub returns-in-Ok-None-clause-journal : goal.returns-in-Ok-None-clause-journal
+returns-in-Ok-None-clause-journal g c = ap (λ (v : View). v.journal) c.prepare.ensures.waits.is
+
+pub returns-in-Ok-None-clause-clock_kept : goal.returns-in-Ok-None-clause-clock_kept
+returns-in-Ok-None-clause-clock_kept g c = ap (λ (v : View). v.clock) c.prepare.ensures.waits.is
+
+pub returns-in-Ok-None-clause-length_kept : goal.returns-in-Ok-None-clause-length_kept
+returns-in-Ok-None-clause-length_kept g c = ap (λ (v : View). v.kept) c.prepare.ensures.waits.is
+
+pub returns-in-Ok-None-clause-fits : goal.returns-in-Ok-None-clause-fits
+returns-in-Ok-None-clause-fits g c = c.in-Ok-None.ensures.fits
+
+pub returns-in-Ok-None-clause-still : goal.returns-in-Ok-None-clause-still
+returns-in-Ok-None-clause-still g c = c.prepare.ensures.still
+
+pub returns-in-Ok-None-clause-full : goal.returns-in-Ok-None-clause-full
+returns-in-Ok-None-clause-full g c = λ full. absurd (cc)
+
+pub returns-in-Err-clause-journal : goal.returns-in-Err-clause-journal
+returns-in-Err-clause-journal g c = ap (λ (v : View). v.journal) c.prepare.ensures.waits.is
+
+pub returns-in-Err-clause-clock_kept : goal.returns-in-Err-clause-clock_kept
+returns-in-Err-clause-clock_kept g c = ap (λ (v : View). v.clock) c.prepare.ensures.waits.is
+
+pub returns-in-Err-clause-length_kept : goal.returns-in-Err-clause-length_kept
+returns-in-Err-clause-length_kept g c = ap (λ (v : View). v.kept) c.prepare.ensures.waits.is
+
+pub returns-in-Err-clause-err : goal.returns-in-Err-clause-err
+returns-in-Err-clause-err g c = c.prepare.ensures.waits
+
+pub returns-in-Err-clause-idle : goal.returns-in-Err-clause-idle
+returns-in-Err-clause-idle g c = λ none.
+    let ok = c.in-Err.ensures.idle none in
+    absurd (cc)
+
+pub returns-in-Err-clause-full : goal.returns-in-Err-clause-full
+returns-in-Err-clause-full g c = λ full. c.in-Err.ensures.full (cc)
+
+pub returns-in-Err-clause-refused : goal.returns-in-Err-clause-refused
+returns-in-Err-clause-refused g c = c.in-Err.ensures.refused
