@@ -12,7 +12,7 @@ use tf_registry::{Naming, Pushes, Registry, Tables};
 
 /// The row has so many tables, and its content has exactly the numbers below `rows`.
 fn assert_row<N: Naming>(rt: &impl Abort, row: &Tables<u64, Global, N>, tables: usize, rows: u64) {
-    assert_eq!(rt; row.len(), tables);
+    assert!(rt; row.len() == tables);
     for value in 0..rows {
         assert!(rt; value_at(row, value) == Some(value), "the row of {value}");
     }
@@ -48,10 +48,10 @@ fn install_in_turn<N: Naming>(
     let mut pushes = Pushes::new(7);
     let outcomes = install_twice(rt, alloc, registry, row, &mut pushes);
     let stale = install(rt, registry, row, &mut pushes, late);
-    assert_eq!(rt; outcomes?, (Outcome::RegistryFull, Outcome::Installed));
-    assert_eq!(rt; stale, Outcome::Stale);
+    assert!(rt; outcomes? == (Outcome::RegistryFull, Outcome::Installed));
+    assert!(rt; stale == Outcome::Stale);
     assert_row(rt, row, 4, 5);
-    assert_eq!(rt; (pushes.count(), pushes.limit()), (1, 7));
+    assert!(rt; pushes.count() == 1 && pushes.limit() == 7);
     Ok(())
 }
 
@@ -92,13 +92,13 @@ fn full_row<N: Naming>(
 
 /// The row has 64 tables, of which the newest has the number 66, and the oldest is the merge.
 fn assert_full<N: Naming>(rt: &impl Abort, row: &Tables<u64, Global, N>) {
-    assert_eq!(rt; row.weight(), 65);
+    assert!(rt; row.weight() == 65);
     let references = row.references();
-    assert_eq!(rt; references.len(), 64);
-    assert_eq!(rt; references[0].number(), 66);
+    assert!(rt; references.len() == 64);
+    assert!(rt; references[0].number() == 66);
     let oldest = &references[63];
-    assert_eq!(rt; oldest.number(), 65);
-    assert_eq!(rt; oldest.table().level(), 1);
+    assert!(rt; oldest.number() == 65);
+    assert!(rt; oldest.table().level() == 1);
     assert!(rt; oldest.table().is_oldest());
 }
 

@@ -8,7 +8,7 @@ use std::marker::Brand;
 use std::process::Abort;
 use std::sync::Wait;
 use std::test::Fail;
-use tf_registry::{Naming, Registry, TableRef, Tables};
+use tf_registry::{Body, Held, Name, Naming, Registry, TableRef, Tables};
 use tf_table::Span;
 
 /// Rows of one table.
@@ -23,6 +23,33 @@ const ONE: Span = Span {
 /// The bytes that so many rows take at least: 32 of each key, and 16 of each value.
 const BYTES: usize = 48_000;
 
+/// How many bytes come back with a value.
+fn bytes_back<V: Drop>(heap: &LocalHeap, value: V) -> usize {
+    let used = heap.used();
+    drop(value);
+    used.wrapping_sub(heap.used())
+}
+
+/// Whether all rows are there.
+fn has_rows<N: Naming>(reference: &TableRef<u64, &LocalHeap, N>) -> bool {
+    reference.table().table().len() == 1000
+}
+
+/// Whether this is known of the table for good.
+fn is_known<'h, N: Naming>(
+    registry: &Registry<u64, &'h LocalHeap>,
+    name: &Name<u64, &'h LocalHeap, N>,
+) -> bool
+    requires here { registry.now ≡ N.shelf 0 }
+{
+    let kept = registry.description(name);
+    kept.rows() == 1000
+        && kept.level() == 0
+        && kept.is_oldest()
+        && kept.span() == Some(ONE)
+        && name.number() == 1
+}
+
 fn comes_back<'h, N: Naming>(
     rt: &(impl Abort + Wait),
     heap: &'h LocalHeap,
@@ -30,22 +57,15 @@ fn comes_back<'h, N: Naming>(
 ) -> Result<(), Fail>
     requires here { registry.now ≡ N.shelf 0 }
 {
-    let first: TableRef<u64, &LocalHeap, N> = pushed(rt, registry, table(&heap, 0, ROWS, true)?)?;
+    let sealed = table(&heap, 0, ROWS, true)?;
+    let first: TableRef<u64, &LocalHeap, N> = pushed(rt, registry, sealed)?;
     let name = first.name().again();
-    let second = first.again()?;
-    let full = heap.used();
-    drop(first);
-    assert_eq!(rt; heap.used(), full);
-    assert_eq!(rt; second.table().table().len(), 1000);
-    drop(second);
-    assert!(rt; full.wrapping_sub(heap.used()) >= BYTES);
-    // What is known of the table for good.
-    let kept = registry.description(&name);
-    assert_eq!(rt; kept.rows(), 1000);
-    assert_eq!(rt; kept.level(), 0);
-    assert!(rt; kept.is_oldest());
-    assert!(rt; kept.span() == Some(ONE));
-    assert_eq!(rt; name.number(), 1);
+    let second = first.again();
+    assert!(rt; bytes_back(heap, first) == 0);
+    let second = second?;
+    assert!(rt; has_rows(&second));
+    assert!(rt; bytes_back(heap, second) >= BYTES);
+    assert!(rt; is_known(registry, &name));
     Ok(())
 }
 
@@ -86,7 +106,7 @@ fn little_stays<'h, N: Naming>(
     let before = heap.used();
     push_and_drop::<N>(rt, heap, registry, 1800)?;
     // Room for 32 descriptions and 64 and so on, up to 1,024 at once: 2,016 of 56 bytes each.
-    assert_eq!(rt; heap.used().wrapping_sub(before), 2016 * 56);
+    assert!(rt; heap.used().wrapping_sub(before) == 2016 * 56);
     Ok(())
 }
 
@@ -111,6 +131,31 @@ fn most_of<'h>(
     Ok(taken)
 }
 
+/// The table that a push hands back, for which memory is refused, and which takes none.
+fn handed_back<'h, N: Naming>(
+    rt: &impl Wait,
+    heap: &'h LocalHeap,
+    registry: &Registry<u64, &'h LocalHeap>,
+    sealed: Held<u64, &'h LocalHeap>,
+) -> Result<Held<u64, &'h LocalHeap>, Fail>
+    requires here { registry.now ≡ N.shelf 0 }
+{
+    let used = heap.used();
+    match registry.push::<N, _>(rt, sealed) {
+        Ok(reference) => {
+            drop(reference);
+            Err(Fail::new("pushed"))
+        }
+        Err(back) if heap.used() == used => Ok(back),
+        Err(_) => Err(Fail::new("memory was taken")),
+    }
+}
+
+/// Whether this is the table.
+fn is_whole(table: &Body<u64, &LocalHeap>) -> bool {
+    table.table().len() == 3 && table.level() == 0 && table.is_oldest()
+}
+
 fn hands_back<'h, N: Naming>(
     rt: &(impl Abort + Wait),
     alloc: Global,
@@ -121,18 +166,13 @@ fn hands_back<'h, N: Naming>(
 {
     let sealed = table(&heap, 7, 3, true)?;
     let taken = most_of(alloc, heap)?;
-    let used = heap.used();
-    let Err(back) = registry.push::<N, _>(rt, sealed) else {
-        return Err(Fail::new("pushed"));
-    };
-    assert_eq!(rt; heap.used(), used);
+    let back = handed_back::<N>(rt, heap, registry, sealed);
     drop(taken);
-    assert_eq!(rt; back.table().len(), 3);
-    assert_eq!(rt; back.level(), 0);
-    assert!(rt; back.is_oldest());
+    let back = back?;
+    assert!(rt; is_whole(&back));
     let reference: TableRef<u64, &LocalHeap, N> = pushed(rt, registry, back)?;
     // The refused push used no number up.
-    assert_eq!(rt; reference.number(), 1);
+    assert!(rt; reference.number() == 1);
     Ok(())
 }
 
@@ -148,9 +188,9 @@ fn a_row_takes_32_bytes_for_each_of_64_references(rt: HostRuntime) -> Result<(),
     let heap = LocalHeap::new(rt.alloc(), 1 << 16)?;
     let before = heap.used();
     let row: Tables<u64, &LocalHeap, Brand> = Tables::new(&heap)?;
-    assert_eq!(rt; heap.used().wrapping_sub(before), 64 * 32);
+    assert!(rt; heap.used().wrapping_sub(before) == 64 * 32);
     assert!(rt; row.is_empty());
     drop(row);
-    assert_eq!(rt; heap.used(), before);
+    assert!(rt; heap.used() == before);
     Ok(())
 }

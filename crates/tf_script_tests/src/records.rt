@@ -35,15 +35,15 @@ const TRANSFER_FLAGS: [u16; 9] = [
 
 #[test]
 fn flags_stand_at_their_bits(rt: HostRuntime) {
-    assert_eq!(rt; ACCOUNT_FLAGS, [1, 2, 4, 8, 16, 32]);
-    assert_eq!(rt; TRANSFER_FLAGS, [1, 2, 4, 8, 16, 32, 64, 128, 256]);
+    assert!(rt; ACCOUNT_FLAGS == [1, 2, 4, 8, 16, 32]);
+    assert!(rt; TRANSFER_FLAGS == [1, 2, 4, 8, 16, 32, 64, 128, 256]);
     let of_account = [
         AccountFilter::DEBITS,
         AccountFilter::CREDITS,
         AccountFilter::REVERSED,
     ];
-    assert_eq!(rt; of_account, [1, 2, 4]);
-    assert_eq!(rt; QueryFilter::REVERSED, 1);
+    assert!(rt; of_account == [1, 2, 4]);
+    assert!(rt; QueryFilter::REVERSED == 1);
     account_flags_are_these();
     transfer_flags_are_these();
     filter_flags_are_these();
@@ -51,13 +51,10 @@ fn flags_stand_at_their_bits(rt: HostRuntime) {
 
 #[test]
 fn limits_are_the_references(rt: HostRuntime) {
-    assert_eq!(rt; TIMESTAMP_MAX, 9_223_372_036_854_775_807);
-    assert_eq!(rt;
-        AMOUNT_MAX,
-        340_282_366_920_938_463_463_374_607_431_768_211_455
-    );
-    assert_eq!(rt; ID_MAX, 340_282_366_920_938_463_463_374_607_431_768_211_455);
-    assert_eq!(rt; BATCH_MAX, 8190);
+    assert!(rt; TIMESTAMP_MAX == 9_223_372_036_854_775_807);
+    assert!(rt; AMOUNT_MAX == 340_282_366_920_938_463_463_374_607_431_768_211_455);
+    assert!(rt; ID_MAX == 340_282_366_920_938_463_463_374_607_431_768_211_455);
+    assert!(rt; BATCH_MAX == 8190);
     limits_are_these();
     record_sizes_are_these();
 }
@@ -70,7 +67,7 @@ fn sums_compare_by_each_field(rt: HostRuntime) {
         credits_pending: 3,
         credits_posted: 4,
     };
-    assert_eq!(rt; sums, sums);
+    assert!(rt; sums == sums);
     assert_ne!(rt;
         sums,
         Sums {

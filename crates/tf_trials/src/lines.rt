@@ -111,6 +111,36 @@ fn run_parts<'t, F: Tried>(
     Ok(())
 }
 
+/// What a part is about.
+#[derive(Clone, Copy)]
+enum Kind {
+    Publish,
+    Take,
+    Ask,
+    Count,
+    Receipt,
+    Soak,
+    Room,
+    Setting,
+    /// What the store does, or commands.
+    Other,
+}
+
+/// What a part is about that begins with this word.
+fn kind_of(word: &str) -> Kind {
+    match word {
+        "publish" => Kind::Publish,
+        "take" => Kind::Take,
+        "ask" => Kind::Ask,
+        "note" | "same" | "count" | "freed" | "used" => Kind::Count,
+        "receipt" => Kind::Receipt,
+        "soak" => Kind::Soak,
+        "fill" | "holes" | "free" => Kind::Room,
+        "by" | "ids" | "mark" | "grow" | "outlives" => Kind::Setting,
+        _ => Kind::Other,
+    }
+}
+
 /// Whether a part holds.
 fn holds<F: Tried>(
     alloc: Global,
@@ -120,27 +150,37 @@ fn holds<F: Tried>(
     rest: &str,
     answer: &str,
 ) -> Result<bool, Refusal> {
-    match word {
-        "publish" => {
+    match kind_of(word) {
+        Kind::Publish => {
             let publish = Attempt::Publish(learner(trial, rest)?);
             try_out(alloc, store, trial, publish, answer)
         }
-        "take" => try_out(alloc, store, trial, Attempt::Take, answer),
-        "ask" => is_answered(store, trial, rest, answer),
-        "note" | "same" | "count" | "freed" | "used" => {
-            is_counted(store, trial, word, rest, answer)
+        Kind::Take => try_out(alloc, store, trial, Attempt::Take, answer),
+        Kind::Ask => is_answered(store, trial, rest, answer),
+        Kind::Count => is_counted(store, trial, word, rest, answer),
+        Kind::Receipt => has_receipt(trial, rest, answer),
+        Kind::Soak => soak(alloc, store, trial, number(trial, rest)?),
+        Kind::Room => take_room(alloc, trial, word, rest),
+        Kind::Setting => set(alloc, trial, word, rest),
+        Kind::Other => acts_or_runs(alloc, store, trial, word, rest, answer),
+    }
+}
+
+/// Whether what the store does, or the commands of a part, answer so.
+fn acts_or_runs<F: Tried>(
+    alloc: Global,
+    store: &mut F,
+    trial: &mut Trial<'_>,
+    word: &str,
+    rest: &str,
+    answer: &str,
+) -> Result<bool, Refusal> {
+    match act_in(trial, word, rest)? {
+        Some(asked) => Ok(act(store, asked).is(answer)),
+        None => {
+            let commands = commands_in(alloc, trial, word, rest)?;
+            run_commands(alloc, store, trial, &commands, answer)
         }
-        "receipt" => has_receipt(trial, rest, answer),
-        "soak" => soak(alloc, store, trial, number(trial, rest)?),
-        "fill" | "holes" | "free" => take_room(alloc, trial, word, rest),
-        "by" | "ids" | "mark" | "grow" | "outlives" => set(alloc, trial, word, rest),
-        _ => match act_in(trial, word, rest)? {
-            Some(asked) => Ok(act(store, asked).is(answer)),
-            None => {
-                let commands = commands_in(alloc, trial, word, rest)?;
-                run_commands(alloc, store, trial, &commands, answer)
-            }
-        },
     }
 }
 

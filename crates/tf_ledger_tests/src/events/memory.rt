@@ -7,7 +7,7 @@ use linked_list_allocator::LocalHeap;
 use std::alloc::Global;
 use std::process::Abort;
 use std::test::Fail;
-use tf_journal::{Ledger, PlainLedger};
+use tf_journal::{Entry, Ledger, PlainLedger};
 use tf_records::Refusal;
 use tf_script::{Command, parse};
 
@@ -63,6 +63,16 @@ transfers 0
 end
 ";
 
+/// Whether these are the clock and the entries.
+fn has_entries<'h>(ledger: &PlainLedger<&'h LocalHeap>, clock: u64, entries: &[Entry]) -> bool {
+    ledger.entries() == entries && stands_at(ledger, clock, entries.len())
+}
+
+/// Whether this is the clock, with so many entries.
+fn stands_at<'h>(ledger: &PlainLedger<&'h LocalHeap>, clock: u64, entries: usize) -> bool {
+    ledger.clock() == clock && ledger.mark().length == entries
+}
+
 /// Whether a batch is refused, which leaves the ledger as it was.
 fn is_refused<'h>(
     rt: &(impl Abort + AllocGlobal),
@@ -77,12 +87,8 @@ fn is_refused<'h>(
     let clock = ledger.clock();
     let refusal = run(heap, ledger, batch).err();
     if refusal.is_some() {
-        assert_eq!(rt; refusal, Some(Refusal::NoMemory));
-        assert_eq!(rt; ledger.entries(), before.as_slice());
-        assert_eq!(rt;
-            (ledger.clock(), ledger.mark().length),
-            (clock, before.len())
-        );
+        assert!(rt; refusal == Some(Refusal::NoMemory));
+        assert!(rt; has_entries(ledger, clock, &before));
     }
     drop(before);
     Ok(refusal.is_some())
@@ -102,14 +108,14 @@ fn count_run<'h>(
         return Ok(0);
     };
     if is_refused(rt, heap, ledger, accounts)? {
-        assert_eq!(rt; (ledger.clock(), ledger.mark().length), (0, 0));
+        assert!(rt; stands_at(ledger, 0, 0));
         return Ok(0);
     }
     if !is_refused(rt, heap, ledger, transfers)? {
         assert!(rt; ledger.mark().length > 2);
         return Ok(2);
     }
-    assert_eq!(rt; (ledger.clock(), ledger.mark().length), (1_003, 2));
+    assert!(rt; stands_at(ledger, 1_003, 2));
     let reply = run(heap, ledger, one)?;
     assert!(rt; reply.is_empty() && ledger.mark().length == 3);
     Ok(1)
@@ -179,13 +185,13 @@ fn assert_answered<'h>(
 {
     let reply = run(heap, ledger, batch)?;
     let answer = told(rt.alloc(), &reply)?;
-    assert_eq!(rt; answer.as_str(), ANSWER);
+    assert!(rt; answer.as_str() == ANSWER);
     Ok(())
 }
 
 /// The batch was run, once.
 fn assert_run_once<'h>(rt: &impl Abort, ledger: &PlainLedger<&'h LocalHeap>) {
-    assert_eq!(rt; (ledger.clock(), ledger.mark().length), (1_012, 9));
+    assert!(rt; stands_at(ledger, 1_012, 9));
     assert!(rt; ledger.failed(9) && ledger.failed(11));
     assert!(rt; !ledger.failed(8) && !ledger.failed(13));
     assert!(rt; ledger.transfer(7).is_some());
@@ -205,7 +211,7 @@ fn try_batch<'h>(
 {
     let refused = is_refused_beside(rt, heap, ledger, batch, taken)?;
     if refused == Some(true) {
-        assert_eq!(rt; (ledger.clock(), ledger.mark().length), (1_003, 3));
+        assert!(rt; stands_at(ledger, 1_003, 3));
         assert_answered(rt, heap, ledger, batch)?;
     }
     if refused.is_some() {

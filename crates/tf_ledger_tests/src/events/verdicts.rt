@@ -2,6 +2,7 @@
 
 ghost use Rattle.tf_journal.specs.Lawful.{IsLawfulAt};
 
+use crate::asserts::assert_in;
 use crate::ledgers::ledger_of;
 use crate::tables::{accounts, first_word, number, transfers};
 use std::alloc::Global;
@@ -9,6 +10,7 @@ use std::process::Abort;
 use std::test::Fail;
 use tf_events::{stored_account, stored_transfer, verdict_account, verdict_transfer};
 use tf_journal::{Entry, Ledger, PlainLedger};
+use tf_records::{Account, Transfer};
 
 /// Two accounts, a transfer, and an open chain, of whose ids 6 failed by itself.
 const BEFORE: &str = "accounts 1000
@@ -46,7 +48,7 @@ fn assert_account_verdict(
     let (name, event) = first_word(rest);
     for event in &accounts(rt.alloc(), event)? {
         let verdict = verdict_account(ledger, number(rt, moment), event);
-        assert_eq!(rt; verdict.name(), name, "in {line}");
+        assert_in(rt, verdict.name() == name, line);
     }
     Ok(())
 }
@@ -62,7 +64,7 @@ fn assert_transfer_verdict(
     let (name, event) = first_word(rest);
     for event in &transfers(rt.alloc(), event)? {
         let verdict = verdict_transfer(ledger, number(rt, moment), event);
-        assert_eq!(rt; verdict.name(), name, "in {line}");
+        assert_in(rt, verdict.name() == name, line);
     }
     Ok(())
 }
@@ -79,26 +81,41 @@ fn verdicts_are_given_at_any_moment(rt: HostRuntime) -> Result<(), Fail> {
     Ok(())
 }
 
+/// An account event, and what it is stored as at moment 1004.
+const STORED_ACCOUNT: &str = "\
++ id=2 user_data_128=7 user_data_64=8 user_data_32=9 ledger=1 code=10
++ id=2 user_data_128=7 user_data_64=8 user_data_32=9 ledger=1 code=10 timestamp=1004";
+
+/// A transfer event, and what it is stored as at moment 1006.
+const STORED_TRANSFER: &str = "\
++ id=7 debit_account_id=1 credit_account_id=2 amount=2 ledger=1 code=11
++ id=7 debit_account_id=1 credit_account_id=2 amount=2 ledger=1 code=11 timestamp=1006";
+
+/// Whether the first of two accounts is stored as the second at a moment.
+fn stores_account(ledger: &PlainLedger<Global>, moment: u64, accounts: &[Account]) -> bool {
+    match accounts {
+        [event, stored] => stored_account(ledger, moment, event) == *stored,
+        _ => false,
+    }
+}
+
+/// Whether the first of two transfers is stored as the second at a moment.
+fn stores_transfer(ledger: &PlainLedger<Global>, moment: u64, transfers: &[Transfer]) -> bool
+    requires { IsLawfulAt (⟦<PlainLedger<Global> as Ledger>⟧.clock ledger.now) (⟦<PlainLedger<Global> as Ledger>⟧.journal ledger.now) }
+{
+    match transfers {
+        [event, stored] => stored_transfer(ledger, moment, event) == *stored,
+        _ => false,
+    }
+}
+
 #[test]
 fn events_are_stored_with_their_timestamp(rt: HostRuntime) -> Result<(), Fail> {
     let ledger = ledger_of(rt.alloc(), BEFORE)?;
-    let made = accounts(
-        rt.alloc(),
-        "+ id=2 user_data_128=7 user_data_64=8 user_data_32=9 ledger=1 code=10
-+ id=2 user_data_128=7 user_data_64=8 user_data_32=9 ledger=1 code=10 timestamp=1004",
-    )?;
-    if let [event, stored] = made.as_slice() {
-        assert_eq!(rt; stored_account(&ledger, 1_004, event), *stored);
-    }
-    let moved = transfers(
-        rt.alloc(),
-        "+ id=7 debit_account_id=1 credit_account_id=2 amount=2 ledger=1 code=11
-+ id=7 debit_account_id=1 credit_account_id=2 amount=2 ledger=1 code=11 timestamp=1006",
-    )?;
-    if let [event, stored] = moved.as_slice() {
-        assert_eq!(rt; stored_transfer(&ledger, 1_006, event), *stored);
-    }
-    assert_eq!(rt; (made.len(), moved.len()), (2, 2));
+    let made = accounts(rt.alloc(), STORED_ACCOUNT)?;
+    assert!(rt; stores_account(&ledger, 1_004, &made));
+    let moved = transfers(rt.alloc(), STORED_TRANSFER)?;
+    assert!(rt; stores_transfer(&ledger, 1_006, &moved));
     Ok(())
 }
 
@@ -109,8 +126,8 @@ fn failed_id_is_an_entry_of_its_own(rt: HostRuntime) -> Result<(), Fail> {
         timestamp: 1_005,
         id: 6,
     };
-    assert_eq!(rt; ledger.entries().last().copied(), Some(failed));
-    assert_eq!(rt; (ledger.clock(), ledger.mark().length), (1_006, 4));
-    assert_eq!(rt; (ledger.failed(6), ledger.failed(5)), (true, false));
+    assert!(rt; ledger.entries().last().copied() == Some(failed));
+    assert!(rt; ledger.clock() == 1_006 && ledger.mark().length == 4);
+    assert!(rt; ledger.failed(6) && !ledger.failed(5));
     Ok(())
 }

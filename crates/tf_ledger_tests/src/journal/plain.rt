@@ -3,6 +3,7 @@
 
 use crate::samples::{CASH, SALES, SECOND};
 use linked_list_allocator::LocalHeap;
+use std::alloc::Global;
 use std::test::Fail;
 use tf_journal::{Entry, IdUse, Ledger, PlainLedger, Status};
 use tf_records::{Account, Refusal, Transfer};
@@ -70,10 +71,42 @@ const REOPEN: Transfer = Transfer {
     ..ORDER
 };
 
+/// Whether an account is found as this one.
+fn has_account(ledger: &PlainLedger<Global>, account: &Account) -> bool {
+    ledger.account(account.id) == Some(*account)
+}
+
+/// Whether the pending transfer of this timestamp has this status.
+fn has_status(ledger: &PlainLedger<Global>, pending: u64, status: Status) -> bool {
+    ledger.status(pending) == Some(status)
+}
+
+/// Whether an id is used so.
+fn is_used(ledger: &PlainLedger<Global>, id: u128, used: &IdUse) -> bool {
+    ledger.id_use(id) == *used
+}
+
+/// Whether this is the clock, with so many entries.
+fn stands_at(ledger: &PlainLedger<Global>, clock: u64, entries: usize) -> bool {
+    ledger.clock() == clock && ledger.mark().length == entries
+}
+
+/// Whether this pending transfer is the first that is due at a moment, and as many as these are, counted up to 9 and to 1.
+fn is_first_due(
+    ledger: &PlainLedger<Global>,
+    moment: u64,
+    first: &Transfer,
+    counts: (u32, u32),
+) -> bool {
+    ledger.next_due(moment) == Some(*first)
+        && ledger.due_count(moment, 9) == counts.0
+        && ledger.due_count(moment, 1) == counts.1
+}
+
 #[test]
 fn pending_transfer_is_posted_and_undone(rt: HostRuntime) -> Result<(), Fail> {
     let mut ledger = PlainLedger::new(rt.alloc());
-    assert_eq!(rt; (ledger.clock(), ledger.mark().length), (0, 0));
+    assert!(rt; stands_at(&ledger, 0, 0));
     ledger.add_account(CASH)?;
     ledger.add_account(SALES)?;
     ledger.keep(2);
@@ -82,27 +115,25 @@ fn pending_transfer_is_posted_and_undone(rt: HostRuntime) -> Result<(), Fail> {
         debits_pending: 40,
         ..CASH
     };
-    assert_eq!(rt; ledger.account(1), Some(set_aside));
-    assert_eq!(rt; ledger.status(3), Some(Status::Open));
+    assert!(rt; has_account(&ledger, &set_aside));
+    assert!(rt; has_status(&ledger, 3, Status::Open));
     let before = ledger.mark();
     ledger.add_transfer(POST)?;
     let credited = Account {
         credits_posted: 30,
         ..SALES
     };
-    assert_eq!(rt; ledger.account(2), Some(credited));
-    assert_eq!(rt; ledger.status(3), Some(Status::Posted));
+    assert!(rt; has_account(&ledger, &credited));
+    assert!(rt; has_status(&ledger, 3, Status::Posted));
     ledger.add_failed(7, 9)?;
-    assert_eq!(rt; (ledger.failed(9), ledger.failed(8)), (true, false));
-    assert_eq!(rt;
-        (ledger.id_use(9), ledger.id_use(12)),
-        (IdUse::Failed, IdUse::Free)
-    );
-    assert_eq!(rt; ledger.id_use(8), IdUse::Stored(POST));
+    assert!(rt; ledger.failed(9) && !ledger.failed(8));
+    assert!(rt; is_used(&ledger, 9, &IdUse::Failed));
+    assert!(rt; is_used(&ledger, 12, &IdUse::Free));
+    assert!(rt; is_used(&ledger, 8, &IdUse::Stored(POST)));
     ledger.undo(before);
-    assert_eq!(rt; ledger.account(1), Some(set_aside));
-    assert_eq!(rt; (ledger.failed(9), ledger.transfer(8)), (false, None));
-    assert_eq!(rt; (ledger.clock(), ledger.mark().length), (2, 3));
+    assert!(rt; has_account(&ledger, &set_aside));
+    assert!(rt; !ledger.failed(9) && ledger.transfer(8).is_none());
+    assert!(rt; stands_at(&ledger, 2, 3));
     Ok(())
 }
 
@@ -114,21 +145,22 @@ fn pending_transfers_expire_in_order(rt: HostRuntime) -> Result<(), Fail> {
     ledger.add_transfer(OFFER)?;
     ledger.add_transfer(QUOTE)?;
     let end = 2 * SECOND + 4;
-    assert_eq!(rt; ledger.next_due(SECOND + 4), None);
-    assert_eq!(rt; ledger.next_due(end), Some(QUOTE));
-    assert_eq!(rt;
-        (ledger.due_count(end, 9), ledger.due_count(end, 1)),
-        (2, 1)
-    );
+    assert!(rt; ledger.next_due(SECOND + 4).is_none());
+    assert!(rt; is_first_due(&ledger, end, &QUOTE, (2, 1)));
     ledger.add_expiry(2 * SECOND + 5, 5)?;
-    assert_eq!(rt; ledger.next_due(end), Some(OFFER));
-    assert_eq!(rt; ledger.status(5), Some(Status::Expired));
+    assert!(rt; is_first_due(&ledger, end, &OFFER, (1, 1)));
+    assert!(rt; has_status(&ledger, 5, Status::Expired));
     let debited = Account {
         debits_pending: 7,
         ..CASH
     };
-    assert_eq!(rt; ledger.account(1), Some(debited));
+    assert!(rt; has_account(&ledger, &debited));
     Ok(())
+}
+
+/// Whether these are the entries.
+fn has_entries(ledger: &PlainLedger<Global>, entries: &[Entry]) -> bool {
+    ledger.entries() == entries
 }
 
 #[test]
@@ -138,20 +170,17 @@ fn closed_account_is_open_again_after_a_void(rt: HostRuntime) -> Result<(), Fail
     ledger.add_account(SALES)?;
     ledger.add_transfer(CLOSE)?;
     let closed = Account { flags: 32, ..CASH };
-    assert_eq!(rt;
-        (ledger.account(1), ledger.account(2)),
-        (Some(closed), Some(SALES))
-    );
+    assert!(rt; has_account(&ledger, &closed) && has_account(&ledger, &SALES));
     ledger.add_transfer(REOPEN)?;
-    assert_eq!(rt; ledger.account(1), Some(CASH));
-    assert_eq!(rt; ledger.status(3), Some(Status::Voided));
+    assert!(rt; has_account(&ledger, &CASH));
+    assert!(rt; has_status(&ledger, 3, Status::Voided));
     let entries = [
         Entry::Account(CASH),
         Entry::Account(SALES),
         Entry::Transfer(CLOSE),
         Entry::Transfer(REOPEN),
     ];
-    assert_eq!(rt; ledger.entries(), entries.as_slice());
+    assert!(rt; has_entries(&ledger, &entries));
     Ok(())
 }
 
@@ -160,8 +189,8 @@ fn closed_account_is_open_again_after_a_void(rt: HostRuntime) -> Result<(), Fail
 fn entry_without_memory_is_refused(rt: HostRuntime) -> Result<(), Fail> {
     let heap = LocalHeap::new(rt.alloc(), 64)?;
     let mut ledger = PlainLedger::new(&heap);
-    assert_eq!(rt; ledger.add_account(CASH), Err(Refusal::NoMemory));
-    assert_eq!(rt; ledger.entries(), [].as_slice());
-    assert_eq!(rt; ledger.account(1), None);
+    assert!(rt; ledger.add_account(CASH).err() == Some(Refusal::NoMemory));
+    assert!(rt; ledger.entries().is_empty());
+    assert!(rt; ledger.account(1).is_none());
     Ok(())
 }

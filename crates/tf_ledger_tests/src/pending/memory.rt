@@ -19,20 +19,16 @@ const LATE: u64 = 2 * SECOND + 3;
 
 /// A refused pulse changes nothing.
 fn assert_refused<'h>(rt: &impl Abort, ledger: &PlainLedger<&'h LocalHeap>, refusal: Refusal) {
-    assert_eq!(rt; refusal, Refusal::NoMemory);
-    assert_eq!(rt; (ledger.clock(), ledger.mark().length), (4, 4));
-    assert_eq!(rt;
-        (ledger.status(4), ledger.status(3)),
-        (Some(Status::Open), Some(Status::Open))
-    );
+    assert!(rt; refusal == Refusal::NoMemory);
+    assert!(rt; ledger.clock() == 4 && ledger.mark().length == 4);
+    assert!(rt; ledger.status(4) == Some(Status::Open) && ledger.status(3) == Some(Status::Open));
 }
 
 /// Both pending transfers have expired.
 fn assert_expired<'h>(rt: &impl Abort, ledger: &PlainLedger<&'h LocalHeap>) {
-    assert_eq!(rt; (ledger.clock(), ledger.mark().length), (LATE + 2, 6));
-    assert_eq!(rt;
-        (ledger.status(4), ledger.status(3)),
-        (Some(Status::Expired), Some(Status::Expired))
+    assert!(rt; ledger.clock() == LATE + 2 && ledger.mark().length == 6);
+    assert!(rt;
+        ledger.status(4) == Some(Status::Expired) && ledger.status(3) == Some(Status::Expired)
     );
 }
 
@@ -105,7 +101,7 @@ fn is_refused_beside<'h>(
     let outcome = pulse_beside(heap, ledger, taken)?;
     if let Err(refusal) = outcome {
         assert_refused(rt, ledger, refusal);
-        assert_eq!(rt; pulse(ledger, LATE, 10), Ok(2));
+        assert!(rt; pulse(ledger, LATE, 10) == Ok(2));
     }
     assert_expired(rt, ledger);
     Some(outcome.is_err())

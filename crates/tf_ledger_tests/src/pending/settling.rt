@@ -3,6 +3,7 @@
 ghost use Rattle.tf_journal.specs.Lawful.{IsLawfulAt};
 
 use super::CLOSED;
+use crate::asserts::assert_in;
 use crate::ledgers::ledger_of;
 use crate::tables::{first_word, number, transfers};
 use std::alloc::Global;
@@ -12,7 +13,7 @@ use tf_journal::{Ledger, PlainLedger, is_settling};
 use tf_pending::{
     judge_settling, stored_settling, transfer_fault, used_id_fault, verdict_settling,
 };
-use tf_records::Outcome;
+use tf_records::{Outcome, Transfer};
 
 /// As `CLOSED`, without the transfer that closes an account.
 const OPEN: &str = "accounts 0
@@ -61,6 +62,18 @@ closing_transfer_must_be_pending + id=8 amount=max pending_id=5 user_data_32=6 f
 reserved_flag + id=8 amount=max pending_id=5 user_data_32=6 flags=balancing_debit
 timestamp_must_be_zero + id=5 debit_account_id=1 credit_account_id=2 amount=40 timeout=2 ledger=1 code=11 flags=pending timestamp=3";
 
+/// Whether an event is a post or a void, this is its verdict at a moment, and it is judged so.
+fn is_judged(ledger: &PlainLedger<Global>, moment: u64, event: &Transfer, name: &str) -> bool
+    requires { IsLawfulAt (⟦<PlainLedger<Global> as Ledger>⟧.clock ledger.now) (⟦<PlainLedger<Global> as Ledger>⟧.journal ledger.now) }
+{
+    if !is_settling(event) {
+        return false;
+    }
+    let verdict = verdict_settling(ledger, moment, event);
+    let judged = judge_settling(ledger, moment, event).err();
+    verdict.name() == name && judged.unwrap_or(Outcome::Ok) == verdict
+}
+
 fn assert_verdict(
     rt: &(impl Abort + AllocGlobal),
     ledger: &PlainLedger<Global>,
@@ -72,14 +85,7 @@ fn assert_verdict(
     let (name, event) = first_word(rest);
     let moment = number(rt, moment);
     for event in &transfers(rt.alloc(), event)? {
-        if is_settling(event) {
-            let verdict = verdict_settling(ledger, moment, event);
-            assert_eq!(rt; verdict.name(), name, "in {line}");
-            let judged = judge_settling(ledger, moment, event).err();
-            assert_eq!(rt; judged.unwrap_or(Outcome::Ok), verdict, "in {line}");
-        } else {
-            panic!(rt; "neither a post nor a void in {line}");
-        }
+        assert_in(rt, is_judged(ledger, moment, event, name), line);
     }
     Ok(())
 }
@@ -97,19 +103,25 @@ fn posts_and_voids_are_judged_by_their_pending_transfer(rt: HostRuntime) -> Resu
     Ok(())
 }
 
+/// Whether the first of two transfers is a post or a void that is stored as the second at moment 9, with an id that is free.
+fn is_stored(ledger: &PlainLedger<Global>, transfers: &[Transfer]) -> bool
+    requires { IsLawfulAt (⟦<PlainLedger<Global> as Ledger>⟧.clock ledger.now) (⟦<PlainLedger<Global> as Ledger>⟧.journal ledger.now) }
+{
+    let [event, stored] = transfers else {
+        return false;
+    };
+    is_settling(event)
+        && stored_settling(ledger, 9, event) == *stored
+        && judge_settling(ledger, 9, event) == Ok(*stored)
+        && used_id_fault(ledger, event).is_none()
+}
+
 #[test]
 fn posts_and_voids_are_stored_with_what_they_leave_out(rt: HostRuntime) -> Result<(), Fail> {
     let ledger = ledger_of(rt.alloc(), OPEN)?;
     for lines in STORED {
         let events = transfers(rt.alloc(), lines)?;
-        let [event, stored] = events.as_slice() else {
-            panic!(rt; "an event and its record: {lines}");
-        };
-        assert_eq!(rt; stored_settling(&ledger, 9, event), *stored);
-        if is_settling(event) {
-            assert_eq!(rt; judge_settling(&ledger, 9, event), Ok(*stored));
-        }
-        assert_eq!(rt; used_id_fault(&ledger, event), None);
+        assert_in(&rt, is_stored(&ledger, &events), lines);
     }
     Ok(())
 }
@@ -119,12 +131,19 @@ fn used_id_is_told_without_its_pending_transfer(rt: HostRuntime) -> Result<(), F
     let ledger = ledger_of(rt.alloc(), OPEN)?;
     let used = "+ id=5 amount=max pending_id=7 user_data_32=6 flags=post_pending_transfer";
     let used = transfers(rt.alloc(), used)?;
-    assert_eq!(rt; used.len(), 1);
+    assert!(rt; used.len() == 1);
     for event in &used {
         let fault = used_id_fault(&ledger, event);
-        assert_eq!(rt; fault, Some(Outcome::ExistsWithDifferentFlags));
+        assert!(rt; fault == Some(Outcome::ExistsWithDifferentFlags));
     }
     Ok(())
+}
+
+/// Whether this is what is wrong with an event by itself, and it is a post or a void if its line says so.
+fn is_faulty(event: &Transfer, name: &str, line: &str) -> bool {
+    let settles = line.contains("post_pending_transfer") || line.contains("void_pending_transfer");
+    let fault = transfer_fault(event).unwrap_or(Outcome::Ok);
+    fault.name() == name && is_settling(event) == settles
 }
 
 #[test]
@@ -132,11 +151,7 @@ fn event_is_judged_by_its_flags(rt: HostRuntime) -> Result<(), Fail> {
     for line in FAULTS.lines() {
         let (name, event) = first_word(line);
         for event in &transfers(rt.alloc(), event)? {
-            let fault = transfer_fault(event).unwrap_or(Outcome::Ok);
-            assert_eq!(rt; fault.name(), name, "in {line}");
-            let settles = line.contains("post_pending_transfer")
-                || line.contains("void_pending_transfer");
-            assert_eq!(rt; is_settling(event), settles, "in {line}");
+            assert_in(&rt, is_faulty(event, name, line), line);
         }
     }
     Ok(())

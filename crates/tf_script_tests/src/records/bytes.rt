@@ -33,8 +33,8 @@ const ACCOUNT: Account = Account {
 #[test]
 fn account_fields_stand_at_their_offsets(rt: HostRuntime) {
     let bytes = counted::<128>(0);
-    assert_eq!(rt; Account::from_bytes(&bytes), Ok(ACCOUNT));
-    assert_eq!(rt; ACCOUNT.to_bytes(), bytes);
+    assert!(rt; Account::from_bytes(&bytes) == Ok(ACCOUNT));
+    assert!(rt; ACCOUNT.to_bytes() == bytes);
 }
 
 /// The transfer whose bytes count up from 0.
@@ -57,8 +57,8 @@ const TRANSFER: Transfer = Transfer {
 #[test]
 fn transfer_fields_stand_at_their_offsets(rt: HostRuntime) {
     let bytes = counted::<128>(0);
-    assert_eq!(rt; Transfer::from_bytes(&bytes), Ok(TRANSFER));
-    assert_eq!(rt; TRANSFER.to_bytes(), bytes);
+    assert!(rt; Transfer::from_bytes(&bytes) == Ok(TRANSFER));
+    assert!(rt; TRANSFER.to_bytes() == bytes);
 }
 
 #[test]
@@ -76,8 +76,8 @@ fn account_filter_fields_stand_at_their_offsets(rt: HostRuntime) {
         limit: 0x7b7a_7978,
         flags: 0x7f7e_7d7c,
     };
-    assert_eq!(rt; AccountFilter::from_bytes(&bytes), Ok(filter));
-    assert_eq!(rt; filter.to_bytes(), bytes);
+    assert!(rt; AccountFilter::from_bytes(&bytes) == Ok(filter));
+    assert!(rt; filter.to_bytes() == bytes);
 }
 
 #[test]
@@ -95,8 +95,8 @@ fn query_filter_fields_stand_at_their_offsets(rt: HostRuntime) {
         limit: 0x3b3a_3938,
         flags: 0x3f3e_3d3c,
     };
-    assert_eq!(rt; QueryFilter::from_bytes(&bytes), Ok(filter));
-    assert_eq!(rt; filter.to_bytes(), bytes);
+    assert!(rt; QueryFilter::from_bytes(&bytes) == Ok(filter));
+    assert!(rt; filter.to_bytes() == bytes);
 }
 
 #[test]
@@ -110,8 +110,8 @@ fn account_balance_fields_stand_at_their_offsets(rt: HostRuntime) {
         timestamp: 0x4746_4544_4342_4140,
         reserved: counted(72),
     };
-    assert_eq!(rt; AccountBalance::from_bytes(&bytes), Ok(balance));
-    assert_eq!(rt; balance.to_bytes(), bytes);
+    assert!(rt; AccountBalance::from_bytes(&bytes) == Ok(balance));
+    assert!(rt; balance.to_bytes() == bytes);
 }
 
 #[test]
@@ -132,7 +132,7 @@ fn a_query_filter_of_ledger_and_limit(rt: HostRuntime) {
     bytes[28] = 0xbc;
     bytes[29] = 0x02;
     bytes[56] = 0x0a;
-    assert_eq!(rt; filter.to_bytes(), bytes);
+    assert!(rt; filter.to_bytes() == bytes);
 }
 
 #[test]
@@ -143,15 +143,12 @@ fn other_lengths_are_no_record(rt: HostRuntime) {
         let bad = Refusal::BadRecord {
             length: length as u64,
         };
-        assert_eq!(rt; Account::from_bytes(some).err(), Some(bad));
-        assert_eq!(rt; Transfer::from_bytes(some).err(), Some(bad));
-        assert_eq!(rt; AccountFilter::from_bytes(some).err(), Some(bad));
-        assert_eq!(rt; AccountBalance::from_bytes(some).err(), Some(bad));
-        assert_eq!(rt; QueryFilter::from_bytes(some).is_ok(), length == 64);
+        assert!(rt; Account::from_bytes(some).err() == Some(bad));
+        assert!(rt; Transfer::from_bytes(some).err() == Some(bad));
+        assert!(rt; AccountFilter::from_bytes(some).err() == Some(bad));
+        assert!(rt; AccountBalance::from_bytes(some).err() == Some(bad));
+        assert!(rt; QueryFilter::from_bytes(some).is_ok() == (length == 64));
     }
     let all = &bytes[..128];
-    assert_eq!(rt;
-        QueryFilter::from_bytes(all).err(),
-        Some(Refusal::BadRecord { length: 128 })
-    );
+    assert!(rt; QueryFilter::from_bytes(all).err() == Some(Refusal::BadRecord { length: 128 }));
 }

@@ -141,7 +141,7 @@ ok";
 #[test]
 fn outcomes_have_the_names_of_the_reference(rt: HostRuntime) {
     for (outcome, name) in OUTCOMES.iter().zip(NAMES.lines()) {
-        assert_eq!(rt; outcome.name(), name);
+        assert!(rt; outcome.name() == name);
     }
-    assert_eq!(rt; NAMES.lines().count(), OUTCOMES.len());
+    assert!(rt; NAMES.lines().count() == OUTCOMES.len());
 }

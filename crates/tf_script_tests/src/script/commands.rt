@@ -1,6 +1,8 @@
 use super::{WHOLE, only_command};
+use crate::asserts::{assert_at, assert_in};
 use linked_list_allocator::LocalHeap;
 use std::alloc::{Allocator, Global};
+use std::process::Abort;
 use std::test::Fail;
 use tf_records::{Account, AccountFilter, QueryFilter, Refusal, Transfer};
 use tf_script::{Command, Query, parse};
@@ -211,13 +213,18 @@ fn is_expected<A: Allocator>(place: usize, command: &Command<A>) -> bool {
     }
 }
 
+/// These are the commands of the whole script.
+fn assert_expected(rt: &impl Abort, commands: &[Command<Global>]) {
+    assert!(rt; commands.len() == 11);
+    for (place, command) in commands.iter().enumerate() {
+        assert_at(rt, is_expected(place, command), "command", place as u64);
+    }
+}
+
 #[test]
 fn every_command_is_read(rt: HostRuntime) -> Result<(), Fail> {
     let commands = parse(rt.alloc(), WHOLE.as_bytes())?;
-    assert_eq!(rt; commands.len(), 11);
-    for (place, command) in commands.iter().enumerate() {
-        assert!(rt; is_expected(place, command), "command {place}");
-    }
+    assert_expected(&rt, &commands);
     Ok(())
 }
 
@@ -227,7 +234,7 @@ fn a_script_may_have_many_commands(rt: HostRuntime) -> Result<(), Fail> {
     for _ in 0..10_000u32 {
         script.push_str("publish\n")?;
     }
-    assert_eq!(rt; parse(rt.alloc(), script.as_bytes())?.len(), 10_000);
+    assert!(rt; parse(rt.alloc(), script.as_bytes())?.len() == 10_000);
     Ok(())
 }
 
@@ -287,7 +294,7 @@ fn each_query_has_its_fields(rt: HostRuntime) -> Result<(), Fail> {
     ] {
         let found = only_command(rt.alloc(), script.as_bytes())?;
         let matched = matches!(&found, Some(Command::Query(found)) if *found == query);
-        assert!(rt; matched, "in {script:?}");
+        assert_in(&rt, matched, script);
     }
     Ok(())
 }
@@ -295,13 +302,8 @@ fn each_query_has_its_fields(rt: HostRuntime) -> Result<(), Fail> {
 #[test]
 fn refused_memory_changes_no_answer(rt: HostRuntime) -> Result<(), Fail> {
     match parse(rt.alloc(), WHOLE.as_bytes()) {
-        Ok(commands) => {
-            assert_eq!(rt; commands.len(), 11);
-            for (place, command) in commands.iter().enumerate() {
-                assert!(rt; is_expected(place, command), "command {place}");
-            }
-        }
-        Err(refusal) => assert_eq!(rt; refusal, Refusal::NoMemory),
+        Ok(commands) => assert_expected(&rt, &commands),
+        Err(refusal) => assert!(rt; refusal == Refusal::NoMemory),
     }
     Ok(())
 }
@@ -332,7 +334,7 @@ fn a_fault_comes_before_want_of_memory(rt: HostRuntime) -> Result<(), Fail> {
         ),
     ] {
         let found = parse(&heap, script.as_bytes()).err();
-        assert_eq!(rt; found, Some(refusal), "in {script:?}");
+        assert_in(&rt, found == Some(refusal), script);
     }
     Ok(())
 }

@@ -1,4 +1,5 @@
 use super::{WHOLE, fault_of};
+use crate::asserts::{assert_at, assert_in};
 use crate::tables::{first_word, number, unescaped};
 use std::alloc::{AllocError, Global};
 use std::process::Abort;
@@ -129,7 +130,8 @@ fn assert_places(rt: &(impl Abort + AllocGlobal), table: &str) -> Result<(), Fai
         if !line.starts_with('#') {
             let (place, script) = place_and_script(rt, line);
             let script = unescaped(rt.alloc(), script)?;
-            assert_eq!(rt; fault_of(rt.alloc(), &script)?, place, "in {line}");
+            let fault = fault_of(rt.alloc(), &script)?;
+            assert_in(rt, fault == place, line);
         }
     }
     Ok(())
@@ -157,7 +159,8 @@ fn single_bytes_are_faults_but_three(rt: HostRuntime) -> Result<(), Fail> {
             b'\n' | b' ' | b'#' => None,
             _ => Some((1, 1)),
         };
-        assert_eq!(rt; fault_of(rt.alloc(), &[byte])?, place, "at byte {byte}");
+        let fault = fault_of(rt.alloc(), &[byte])?;
+        assert_at(&rt, fault == place, "the byte", u64::from(byte));
     }
     Ok(())
 }
@@ -211,7 +214,8 @@ fn assert_digits(
     let digits = filled(rt.alloc(), digits, zeros.as_str())?;
     let script = filled(rt.alloc(), script, digits.as_str())?;
     let script = unescaped(rt.alloc(), script.as_str())?;
-    assert_eq!(rt; fault_of(rt.alloc(), &script)?, place, "{digits} in {line}");
+    let fault = fault_of(rt.alloc(), &script)?;
+    assert_in(rt, fault == place, line);
     Ok(())
 }
 
@@ -234,7 +238,7 @@ fn every_word_cut_short_has_an_answer(rt: HostRuntime) -> Result<(), Fail> {
         let fault = fault_of(rt.alloc(), &WHOLE.as_bytes()[..end])?;
         if let Some((at, _)) = fault {
             let last = matches!(at.checked_sub(line), Some(0 | 1));
-            assert!(rt; last, "up to byte {end}: {fault:?}");
+            assert_at(&rt, last, "the script up to the byte", end as u64);
         }
         if *byte == b'\n' {
             line = line.saturating_add(1);
