@@ -250,7 +250,7 @@ fn assert_same(
     count: u64,
 ) {
     for _timestamp in 0..count {
-        assert_eq!(rt; left.next(), right.next());
+        assert!(rt; left.next() == right.next());
     }
 }
 
@@ -330,7 +330,7 @@ fn assert_few_searched<N: Naming>(
     let closed = prefix.unsearched();
     let mut room = [0u64; 10];
     if is_moved {
-        assert_eq!(rt; prefix.take_into(&mut room), 10);
+        assert!(rt; prefix.take_into(&mut room) == 10);
     } else {
         read_each(&mut prefix, &mut room)?;
     }
@@ -339,10 +339,10 @@ fn assert_few_searched<N: Naming>(
             Direction::Rising => 1_095 + place,
             Direction::Falling => 1_095 - place,
         };
-        assert_eq!(rt; room.get(place as usize).copied(), Some(wanted));
+        assert!(rt; room.get(place as usize).copied() == Some(wanted));
     }
     let searched = closed.saturating_sub(prefix.unsearched());
-    assert!(rt; searched <= 2, "{searched} tables were searched");
+    assert!(rt; searched <= 2);
     Ok(())
 }
 
@@ -360,8 +360,8 @@ fn assert_some_search_one<N: Naming>(
         Direction::Rising => 5,
         Direction::Falling => 10,
     };
-    assert_eq!(rt; prefix.take_some(&mut room), wanted);
-    assert_eq!(rt; closed.saturating_sub(prefix.unsearched()), 1);
+    assert!(rt; prefix.take_some(&mut room) == wanted);
+    assert!(rt; closed.saturating_sub(prefix.unsearched()) == 1);
 }
 
 /// The same in both directions, and however they are read.
@@ -417,11 +417,11 @@ fn count_too_small<N: Naming>(
         let heap = LocalHeap::new(rt.alloc(), tries * 128)?;
         match join_in(&heap, tables) {
             Err(refusal) => {
-                assert_eq!(rt; refusal, Refusal::NoMemory);
-                assert_eq!(rt; heap.used(), 0);
+                assert!(rt; refusal == Refusal::NoMemory);
+                assert!(rt; heap.used() == 0);
             }
             Ok(mut scan) => {
-                assert_eq!(rt; scan.next(), Some(0));
+                assert!(rt; scan.next() == Some(0));
                 return Ok(tries);
             }
         }

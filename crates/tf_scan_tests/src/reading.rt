@@ -55,7 +55,33 @@ fn counted_scan_of<'a, A: Allocator>(
     Ok(Scan::leaf(alloc, Counted { list, reads })?)
 }
 
-/// A union reads the first timestamp of each part at its first `next`, and then no further than it needs.
+/// The two parts were read so often.
+fn assert_reads(rt: &impl Abort, left: &Cell<u64>, right: &Cell<u64>, wanted: (u64, u64)) {
+    assert!(rt; (left.get(), right.get()) == wanted);
+}
+
+/// The union reads the first timestamp of each part at its first `next`, and then no further than it needs.
+fn assert_reads_late<P: Leaf, A: Allocator>(
+    rt: &impl Abort,
+    scan: &mut Scan<P, A>,
+    evens: &Cell<u64>,
+    tens: &Cell<u64>,
+) {
+    assert_reads(rt, evens, tens, (0, 0));
+    assert!(rt; scan.next() == Some(0));
+    assert_reads(rt, evens, tens, (1, 1));
+    // Both gave theirs, so both are asked again, and then one of them until the other's turn.
+    assert!(rt; scan.next() == Some(2));
+    assert_reads(rt, evens, tens, (2, 2));
+    assert!(rt; scan.next() == Some(4));
+    assert!(rt; scan.next() == Some(6));
+    assert_reads(rt, evens, tens, (4, 2));
+    // The seek stays before the first timestamp of one, so the other alone is asked.
+    scan.seek(9);
+    assert_reads(rt, evens, tens, (5, 2));
+}
+
+/// The same of a union of two lists.
 fn assert_union_reads_late<'a>(
     rt: &(impl Abort + AllocGlobal),
     lists: (&'a [u64], &'a [u64]),
@@ -65,22 +91,27 @@ fn assert_union_reads_late<'a>(
     let left = counted_scan_of(rt.alloc(), lists.0, evens)?;
     let right = counted_scan_of(rt.alloc(), lists.1, tens)?;
     let mut scan = Scan::union(rt.alloc(), left, right)?;
-    assert_eq!(rt; (evens.get(), tens.get()), (0, 0));
-    assert_eq!(rt; scan.next(), Some(0));
-    assert_eq!(rt; (evens.get(), tens.get()), (1, 1));
-    // Both gave theirs, so both are asked again, and then one of them until the other's turn.
-    assert_eq!(rt; scan.next(), Some(2));
-    assert_eq!(rt; (evens.get(), tens.get()), (2, 2));
-    assert_eq!(rt; scan.next(), Some(4));
-    assert_eq!(rt; scan.next(), Some(6));
-    assert_eq!(rt; (evens.get(), tens.get()), (4, 2));
-    // The seek stays before the first timestamp of one, so the other alone is asked.
-    scan.seek(9);
-    assert_eq!(rt; (evens.get(), tens.get()), (5, 2));
+    assert_reads_late(rt, &mut scan, evens, tens);
     Ok(())
 }
 
 /// The one with many timestamps is sought about as often as the other has some.
+fn assert_seeks<P: Leaf, A: Allocator>(
+    rt: &impl Abort,
+    scan: &mut Scan<P, A>,
+    few: &Cell<u64>,
+    many: &Cell<u64>,
+) {
+    assert_reads(rt, few, many, (0, 0));
+    for place in 0..10u64 {
+        assert!(rt; scan.next() == Some(500 * place));
+    }
+    assert!(rt; scan.next().is_none());
+    assert!(rt; few.get() <= 11);
+    assert!(rt; many.get() <= 40);
+}
+
+/// The same of an intersection of two lists.
 fn assert_intersection_seeks<'a>(
     rt: &(impl Abort + AllocGlobal),
     lists: (&'a [u64], &'a [u64]),
@@ -90,17 +121,7 @@ fn assert_intersection_seeks<'a>(
     let left = counted_scan_of(rt.alloc(), lists.0, few)?;
     let right = counted_scan_of(rt.alloc(), lists.1, many)?;
     let mut scan = Scan::intersection(rt.alloc(), left, right)?;
-    assert_eq!(rt; (few.get(), many.get()), (0, 0));
-    for place in 0..10u64 {
-        assert_eq!(rt; scan.next(), Some(500 * place));
-    }
-    assert!(rt; scan.next().is_none());
-    assert!(rt; few.get() <= 11, "{} reads of the one with few", few.get());
-    assert!(rt;
-        many.get() <= 40,
-        "{} reads of the one with many",
-        many.get()
-    );
+    assert_seeks(rt, &mut scan, few, many);
     Ok(())
 }
 

@@ -4,10 +4,11 @@ ghost use Rattle.std.specs.Prelude.{◌≡◌};
 
 use crate::lists::{Multiples, list_of};
 use linked_list_allocator::LocalHeap;
+use std::alloc::Allocator;
 use std::process::Abort;
 use std::test::Fail;
 use tf_records::Refusal;
-use tf_scan::{Direction, PostingList, Scan};
+use tf_scan::{Direction, Leaf, PostingList, Scan};
 
 /// Bytes by which a heap grows from one try to the next. No box is smaller.
 const STEP: usize = 16;
@@ -30,6 +31,27 @@ fn join_in<'a>(
     }
 }
 
+/// A join that was refused gave everything back.
+fn assert_refused(rt: &impl Abort, heap: &LocalHeap, refusal: Refusal) {
+    assert!(rt; refusal == Refusal::NoMemory);
+    assert!(rt; heap.used() == 0);
+}
+
+/// The scan gives 0 and this timestamp, and none from 7 on, and takes no memory for them.
+fn assert_gives_two<P: Leaf, A: Allocator>(
+    rt: &impl Abort,
+    heap: &LocalHeap,
+    scan: &mut Scan<P, A>,
+    second: u64,
+) {
+    let used = heap.used();
+    assert!(rt; scan.next() == Some(0));
+    assert!(rt; scan.next() == Some(second));
+    scan.seek(7);
+    assert!(rt; scan.next().is_none());
+    assert!(rt; heap.used() == used);
+}
+
 /// Joins the first multiples of 2 and of 3 in a heap. It tells whether its memory sufficed.
 fn is_joined<'a>(
     rt: &(impl Abort + AllocGlobal),
@@ -42,17 +64,11 @@ fn is_joined<'a>(
     let right = PostingList::new(Direction::Rising, threes).ok_or("out of order")?;
     match join_in(heap, is_union, left, right) {
         Err(refusal) => {
-            assert_eq!(rt; refusal, Refusal::NoMemory);
-            assert_eq!(rt; heap.used(), 0);
+            assert_refused(rt, heap, refusal);
             Ok(false)
         }
         Ok(mut scan) => {
-            let used = heap.used();
-            assert_eq!(rt; scan.next(), Some(0));
-            assert_eq!(rt; scan.next(), Some(if is_union { 2 } else { 6 }));
-            scan.seek(7);
-            assert!(rt; scan.next().is_none());
-            assert_eq!(rt; heap.used(), used);
+            assert_gives_two(rt, heap, &mut scan, if is_union { 2 } else { 6 });
             Ok(true)
         }
     }

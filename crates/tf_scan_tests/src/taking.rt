@@ -24,18 +24,18 @@ fn assert_moves<P: Leaf, A: Allocator>(
     for _part in 0..=list.len() {
         let taken = scan.take_into(room);
         for timestamp in &room[..taken] {
-            assert_eq!(rt; left.next().copied(), Some(*timestamp));
+            assert!(rt; left.next().copied() == Some(*timestamp));
         }
         if taken < room.len() {
             assert!(rt; left.next().is_none());
             break;
         }
     }
-    assert_eq!(rt; scan.next(), left.next().copied());
+    assert!(rt; scan.next() == left.next().copied());
 }
 
-/// The same of a slice, which is a leaf, and of the union and the intersection of it with itself.
-fn assert_list_moves(
+/// The same of a slice, which is a leaf.
+fn assert_leaf_moves(
     rt: &(impl Abort + AllocGlobal),
     direction: Direction,
     list: &[u64],
@@ -43,19 +43,47 @@ fn assert_list_moves(
 ) -> Result<(), Fail> {
     let mut leaf: Scan<_, Global> = scan_of(rt.alloc(), direction, list)?;
     assert_moves(rt, &mut leaf, list, room);
-    let (left, right) = (
-        scan_of(rt.alloc(), direction, list)?,
-        scan_of(rt.alloc(), direction, list)?,
-    );
+    Ok(())
+}
+
+/// The same of its union with itself.
+fn assert_union_moves(
+    rt: &(impl Abort + AllocGlobal),
+    direction: Direction,
+    list: &[u64],
+    room: &mut [u64],
+) -> Result<(), Fail> {
+    let left = scan_of(rt.alloc(), direction, list)?;
+    let right = scan_of(rt.alloc(), direction, list)?;
     let mut union = Scan::union(rt.alloc(), left, right)?;
     assert_moves(rt, &mut union, list, room);
-    let (left, right) = (
-        scan_of(rt.alloc(), direction, list)?,
-        scan_of(rt.alloc(), direction, list)?,
-    );
+    Ok(())
+}
+
+/// The same of its intersection with itself.
+fn assert_intersection_moves(
+    rt: &(impl Abort + AllocGlobal),
+    direction: Direction,
+    list: &[u64],
+    room: &mut [u64],
+) -> Result<(), Fail> {
+    let left = scan_of(rt.alloc(), direction, list)?;
+    let right = scan_of(rt.alloc(), direction, list)?;
     let mut intersection = Scan::intersection(rt.alloc(), left, right)?;
     assert_moves(rt, &mut intersection, list, room);
     Ok(())
+}
+
+/// The same of all three.
+fn assert_list_moves(
+    rt: &(impl Abort + AllocGlobal),
+    direction: Direction,
+    list: &[u64],
+    room: &mut [u64],
+) -> Result<(), Fail> {
+    assert_leaf_moves(rt, direction, list, room)?;
+    assert_union_moves(rt, direction, list, room)?;
+    assert_intersection_moves(rt, direction, list, room)
 }
 
 #[test]

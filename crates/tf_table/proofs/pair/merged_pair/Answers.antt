@@ -1,4 +1,4 @@
-use Rattle.std.proofs.Common.{◌≡◌, ℕ, ◌<◌, List, [], ◌∷◌, ◌++◌, Option, Some, None, ap, sym, ◌∙◌, subst}
+use Rattle.std.proofs.Common.{◌≡◌, ℕ, ◌+◌, ◌<◌, List, [], ◌∷◌, ◌++◌, Option, Some, None, refl, ap, sym, ◌∙◌, subst, rules, arith}
 use Rattle.std.specs.Option.{option_map}
 use Rattle.tf_table.specs.declared.key.Key.{Key}
 use Rattle.tf_table.specs.Key.{key_cmp}
@@ -6,9 +6,24 @@ use Rattle.tf_table.specs.Content.{kept_row}
 use Rattle.tf_table.specs.Merge.{least_at}
 use Rattle.tf_table.proofs.Keys.{keys_total, exact_keys}
 use Rattle.tf_table.proofs.Least.{left_of, rows_left}
-use Rattle.tf_table.proofs.Combine.{Combines, merge_step, merge_fewer}
+use Rattle.tf_table.proofs.Combine.{Combines, combines_start, merge_step, merge_fewer, merge_fits}
 use Rattle.tf_table.proofs.Merged.{merges_sealed, none_from_not}
 use Rattle.tf_table.proofs.pair.merged_pair.Goals as goal
+
+pub loop-step-init : goal.loop-step-init
+loop-step-init g c =
+    let lists = c.args.newer.now ∷ c.args.older.now ∷ [] in
+    let room : c.in_ok-room.room ≡ c.len.result + c.len-2.result = search rules in
+    record {
+      room = omega (arith, c.in_ok-draft.ensures.room, room, c.len.ensures.value, c.len-2.ensures.value);
+      combines = combines_start key_cmp keys_total exact_keys c.args.bottom lists lists c.in_ok-draft.draft.rows (c.len.ensures.rising, (c.len-2.ensures.rising, tt)) refl c.in_ok-draft.ensures.none;
+    }
+
+pub keep-requires : goal.keep-requires
+keep-requires g c =
+    let lists = c.args.newer.now ∷ c.args.older.now ∷ [] in
+    let places = c.loop-step.newer_place ∷ c.loop-step.older_place ∷ [] in
+    record { fits = omega (arith, merge_fits key_cmp keys_total exact_keys c.args.bottom lists places c.loop-step.draft.rows c.in-Some.step.row c.loop-step.invariant.combines (sym c.in-Some.ensures.row), c.loop-step.invariant.room) }
 
 pub loop-step-smaller : goal.loop-step-smaller
 loop-step-smaller g c =
