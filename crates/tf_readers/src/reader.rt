@@ -72,15 +72,9 @@ impl<V: Publishable + Drop, A: Allocator, S: HistoryName> Reader<V, A, S> {
         ensures seen { result ≡ true → self.new.seen ≡ self.new.held }
         ensures none { result ≡ false → self.new ≡ self.old }
     {
-        let Some(entered) = self.copies.enter() else {
+        let Some(page) = entered_page(&mut self.copies, &mut self.known) else {
             return false;
         };
-        let Ok(page) = entered.again() else {
-            return false;
-        };
-        if !self.known.reach(page.front()) {
-            return false;
-        }
         self.page = page;
         true
     }
