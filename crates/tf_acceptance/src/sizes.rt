@@ -36,16 +36,18 @@ fn assert_prints(rt: &(impl Abort + AllocGlobal), short: &str, answer: &str) -> 
     Ok(())
 }
 
-/// A script prints the same over a store as over the plain ledger, in so many lines.
+/// A script prints the same over a store as over the plain ledger, in so many lines, of which these are the last.
 fn assert_alike<R: Abort + AllocGlobal + Wait>(
     rt: &R,
     short: &str,
     lines: usize,
+    end: &str,
 ) -> Result<(), Fail> {
     let plainly = printed_plainly(rt.alloc(), short)?;
     let out = printed(rt, short)?;
     assert!(rt; out.as_slice() == plainly.as_slice());
     assert!(rt; line_count(out.as_slice()) == lines);
+    assert!(rt; out.as_slice().ends_with(end.as_bytes()));
     Ok(())
 }
 
@@ -67,11 +69,22 @@ transfers 0
 end
 transfers 0
 @events 1 8190 0 debit_account_id=1 credit_account_id=2 amount=1 ledger=700 code=1
-end";
+end
+transfers 0
+@events 10001 18190 0 debit_account_id=1 credit_account_id=2 amount=3 ledger=700 code=1 flags=pending
+end
+lookup_accounts 1";
     assert_prints(
         &rt,
         BATCHES,
-        "clock 1002\nrefused batch_too_large\nclock 9192\n",
+        "\
+clock 1002
+refused batch_too_large
+clock 9192
+clock 17382
+account id=1 debits_pending=24570 debits_posted=8190 credits_pending=0 credits_posted=0 user_data_128=0 user_data_64=0 user_data_32=0 ledger=700 code=10 flags=0 timestamp=1001
+rows 1
+",
     )
 }
 
@@ -86,11 +99,30 @@ transfers max
 end
 transfers max
 @events 1 1 0 debit_account_id=1 credit_account_id=2 amount=1 ledger=700 code=1
+end
+transfers 9223372036854767618
+@events 1 8190 0 debit_account_id=1 credit_account_id=2 amount=1 ledger=700 code=1
 end";
     assert_prints(
         &rt,
         LATE,
-        "clock 1002\nrefused batch_too_large\nrefused clock_exhausted\n",
+        "clock 1002\nrefused batch_too_large\nrefused clock_exhausted\nrefused clock_exhausted\n",
+    )
+}
+
+/// The clock moves by as many events as a batch has, though none of them is an account.
+#[test]
+fn a_batch_that_fails_has_8190_events(rt: HostRuntime) -> Result<(), Fail> {
+    const FAILING: &str = "\
+accounts 0
+@events 1 8190 0 code=10
+end
+query_accounts limit=1";
+    assert_alike(
+        &rt,
+        FAILING,
+        8190 + 2,
+        "8189 ledger_must_not_be_zero\nclock 8190\nrows 0\n",
     )
 }
 
@@ -135,7 +167,7 @@ end
 query_transfers limit=max
 get_account_transfers account_id=1 limit=8191 flags=debits|reversed";
     // three clocks, and twice 8,190 rows with their count
-    assert_alike(&rt, ANSWERS, 3 + 2 * 8191)
+    assert_alike(&rt, ANSWERS, 3 + 2 * 8191, "timestamp=1005\nrows 8190\n")
 }
 
 /// Each query and look-up answers as many rows as it may, by one field and by several, before and after a compaction.
@@ -147,7 +179,7 @@ query_accounts limit=8190
 query_accounts user_data_32=7 ledger=700 code=10 limit=8190 flags=reversed
 @ids 1 8190 lookup_accounts";
     // a clock, and three answers with their counts
-    assert_alike(&rt, ACCOUNTS, 1 + 3 * 8191)?;
+    assert_alike(&rt, ACCOUNTS, 1 + 3 * 8191, "timestamp=8190\nrows 8190\n")?;
     const TRANSFERS: &str = "\
 @batches accounts 1 2 0 ledger=700 code=10 flags=history
 @batches transfers 1 8190 0 debit_account_id=1 credit_account_id=2 amount=1 ledger=700 code=1 user_data_128=5 user_data_64=6 user_data_32=7
@@ -161,7 +193,12 @@ compact
 query_transfers user_data_128=5 user_data_64=6 user_data_32=7 limit=8190
 get_account_balances account_id=2 user_data_64=6 code=1 limit=8190 flags=credits";
     // two clocks, eight answers with their counts, and a compaction
-    assert_alike(&rt, TRANSFERS, 2 + 8 * 8191 + 1)
+    assert_alike(
+        &rt,
+        TRANSFERS,
+        2 + 8 * 8191 + 1,
+        "timestamp=8192\nrows 8190\n",
+    )
 }
 
 /// A script has a hundred thousand commands, and lines as long as look-ups can make them.
@@ -170,7 +207,7 @@ fn a_script_has_100000_commands(rt: HostRuntime) -> Result<(), Fail> {
     const COMMANDS: &str = "\
 @times 100000 lookup_accounts 1
 @ids 4000000000 4000008189 lookup_transfers";
-    assert_alike(&rt, COMMANDS, 100_001)
+    assert_alike(&rt, COMMANDS, 100_001, "rows 0\n")
 }
 
 /// What is published at once is a hundred thousand accounts, transfers with history, pending transfers, posts, voids, expiries or ids
@@ -206,6 +243,15 @@ publish
 @batches transfers 900001 1000000 0 debit_account_id=3 credit_account_id=2 amount=1 ledger=700 code=1
 publish
 compact
-lookup_accounts 1 2 3";
-    assert_ends(&rt, ENTRIES, "rows 3\n")
+lookup_accounts 3 2 1";
+    assert_ends(
+        &rt,
+        ENTRIES,
+        "\
+account id=3 debits_pending=0 debits_posted=0 credits_pending=0 credits_posted=0 user_data_128=0 user_data_64=0 user_data_32=0 ledger=700 code=10 flags=2 timestamp=3
+account id=2 debits_pending=0 debits_posted=0 credits_pending=0 credits_posted=200000 user_data_128=0 user_data_64=0 user_data_32=0 ledger=700 code=10 flags=8 timestamp=2
+account id=1 debits_pending=0 debits_posted=200000 credits_pending=0 credits_posted=0 user_data_128=0 user_data_64=0 user_data_32=0 ledger=700 code=10 flags=8 timestamp=1
+rows 3
+",
+    )
 }

@@ -14,9 +14,10 @@ use tf_forest::Forest;
 use tf_main::{RunFault, write_batch, write_compaction, write_found, write_publish, write_pulsed};
 use tf_publish::Rows;
 use tf_query::Version;
-use tf_rows::SealRows;
+use tf_records::{Account, Transfer};
+use tf_rows::{AllRows, SealRows};
 use tf_script::{Command, Query};
-use tf_store::{StoreName, VersionCopies};
+use tf_store::{StoreName, StoredCopies, VersionCopies};
 
 impl<'s, T, A, S, C, W> Served<'s, Forest<Rows<T, A, S>, A>, A, S, C, W>
 where
@@ -61,18 +62,9 @@ where
             (O.contents out.old) (O.contents out.new) (command_view command.now) result }
     {
         match command {
-            Command::Accounts { now, events } => {
-                let outcome = self.create_accounts(events.as_slice(), *now);
-                write_batch(&outcome, self.clock(), out)
-            }
-            Command::Transfers { now, events } => {
-                let outcome = self.create_transfers(events.as_slice(), *now);
-                write_batch(&outcome, self.clock(), out)
-            }
-            Command::Pulse { now, max } => {
-                let outcome = self.pulse(*now, *max);
-                write_pulsed(outcome, self.clock(), out)
-            }
+            Command::Accounts { now, events } => self.run_accounts(events.as_slice(), *now, out),
+            Command::Transfers { now, events } => self.run_transfers(events.as_slice(), *now, out),
+            Command::Pulse { now, max } => self.run_pulse(*now, *max, out),
             Command::Publish => write_publish(self.publish(), out),
             Command::Compact => write_compaction(self.compact(), out),
             Command::Query(query) => self.run_query(query, out),
@@ -97,5 +89,52 @@ where
             Query::Accounts(filter) => write_found(&self.query_accounts(filter), out),
             Query::Transfers(filter) => write_found(&self.query_transfers(filter), out),
         }
+    }
+}
+
+/// What names no type of a row, so that no call of it takes those apart.
+impl<'s, R, A, S, C, W> Served<'s, Forest<R, A>, A, S, C, W>
+where
+    R: AllRows + Drop,
+    A: Allocator + Copy,
+    S: StoreName,
+    C: StoredCopies + Drop,
+    W: Wait,
+{
+    /// Runs a batch of accounts and writes its reply.
+    fn run_accounts<O: Write>(
+        &mut self,
+        events: &[Account],
+        now: u64,
+        out: &mut O,
+    ) -> Result<(), RunFault>
+        ensures { IsCommandServed self.old.store.now.forest self.new.store.now.forest
+            (O.contents out.old) (O.contents out.new) (command.accounts now events.now) result }
+    {
+        let outcome = self.create_accounts(events, now);
+        write_batch(&outcome, self.clock(), out)
+    }
+
+    /// Runs a batch of transfers and writes its reply.
+    fn run_transfers<O: Write>(
+        &mut self,
+        events: &[Transfer],
+        now: u64,
+        out: &mut O,
+    ) -> Result<(), RunFault>
+        ensures { IsCommandServed self.old.store.now.forest self.new.store.now.forest
+            (O.contents out.old) (O.contents out.new) (command.transfers now events.now) result }
+    {
+        let outcome = self.create_transfers(events, now);
+        write_batch(&outcome, self.clock(), out)
+    }
+
+    /// Runs a pulse and writes how many pending transfers expired.
+    fn run_pulse<O: Write>(&mut self, now: u64, max: u32, out: &mut O) -> Result<(), RunFault>
+        ensures { IsCommandServed self.old.store.now.forest self.new.store.now.forest
+            (O.contents out.old) (O.contents out.new) (command.pulse now max) result }
+    {
+        let outcome = self.pulse(now, max);
+        write_pulsed(outcome, self.clock(), out)
     }
 }

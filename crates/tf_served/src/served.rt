@@ -21,7 +21,7 @@ use tf_query::Version;
 use tf_records::{
     Account, AccountBalance, AccountFilter, BATCH_MAX, QueryFilter, Refusal, Reply, Transfer,
 };
-use tf_rows::SealRows;
+use tf_rows::{AllRows, SealRows};
 use tf_store::{
     Receipt, Share, Store, StoreName, StoreOf, StoredCopies, StoredForest, VersionCopies,
 };
@@ -119,45 +119,6 @@ where
     {
         self.facts();
         self.store.take_version(self.rt)
-    }
-
-    /// The moment after which the next timestamps are given out, 0 at first. It takes no memory.
-    pub(crate) fn clock(&self) -> u64
-        ensures { result ≡ self.now.store.now.forest.clock }
-    {
-        self.store.forest().clock()
-    }
-
-    /// Stores a batch of accounts, as `run_accounts` of `tf_events` does.
-    pub(crate) fn create_accounts(
-        &mut self,
-        events: &[Account],
-        now: u64,
-    ) -> Result<Reply<A>, Refusal>
-        ensures run { IsBatchRun kind.accounts (λ f. f.journal) (λ f. f.clock) (λ f. f.kept) self.old.store.now.forest self.new.store.now.forest events.now now result }
-        ensures sealed { self.new.store.now.forest.sealed ≡ self.old.store.now.forest.sealed }
-    {
-        self.store.create_accounts(events, now, &mut self.share)
-    }
-
-    /// Stores a batch of transfers, as `run_transfers` of `tf_events` does.
-    pub(crate) fn create_transfers(
-        &mut self,
-        events: &[Transfer],
-        now: u64,
-    ) -> Result<Reply<A>, Refusal>
-        ensures run { IsBatchRun kind.transfers (λ f. f.journal) (λ f. f.clock) (λ f. f.kept) self.old.store.now.forest self.new.store.now.forest events.now now result }
-        ensures sealed { self.new.store.now.forest.sealed ≡ self.old.store.now.forest.sealed }
-    {
-        self.store.create_transfers(events, now, &mut self.share)
-    }
-
-    /// Lets due pending transfers expire, at most so many, as `pulse` of `tf_pending` does.
-    pub(crate) fn pulse(&mut self, now: u64, max: u32) -> Result<u32, Refusal>
-        ensures run { IsPulseRun (λ f. f.journal) (λ f. f.clock) (λ f. f.kept) self.old.store.now.forest self.new.store.now.forest now max result }
-        ensures sealed { self.new.store.now.forest.sealed ≡ self.old.store.now.forest.sealed }
-    {
-        self.store.pulse(now, max, &mut self.share)
     }
 
     /// Seals what was stored since the last publish.
@@ -264,5 +225,54 @@ where
             Ok(version) => version.lookup_transfers(self.alloc, ids),
             Err(refusal) => Err(refusal),
         }
+    }
+}
+
+/// What names no type of a row, so that no call of it takes those apart.
+impl<'s, R, A, S, C, W> Served<'s, Forest<R, A>, A, S, C, W>
+where
+    R: AllRows + Drop,
+    A: Allocator + Copy,
+    S: StoreName,
+    C: StoredCopies + Drop,
+    W: Wait,
+{
+    /// The moment after which the next timestamps are given out, 0 at first. It takes no memory.
+    pub(crate) fn clock(&self) -> u64
+        ensures { result ≡ self.now.store.now.forest.clock }
+    {
+        self.store.forest().clock()
+    }
+
+    /// Stores a batch of accounts, as `run_accounts` of `tf_events` does.
+    pub(crate) fn create_accounts(
+        &mut self,
+        events: &[Account],
+        now: u64,
+    ) -> Result<Reply<A>, Refusal>
+        ensures run { IsBatchRun kind.accounts (λ f. f.journal) (λ f. f.clock) (λ f. f.kept) self.old.store.now.forest self.new.store.now.forest events.now now result }
+        ensures sealed { self.new.store.now.forest.sealed ≡ self.old.store.now.forest.sealed }
+    {
+        self.store.create_accounts(events, now, &mut self.share)
+    }
+
+    /// Stores a batch of transfers, as `run_transfers` of `tf_events` does.
+    pub(crate) fn create_transfers(
+        &mut self,
+        events: &[Transfer],
+        now: u64,
+    ) -> Result<Reply<A>, Refusal>
+        ensures run { IsBatchRun kind.transfers (λ f. f.journal) (λ f. f.clock) (λ f. f.kept) self.old.store.now.forest self.new.store.now.forest events.now now result }
+        ensures sealed { self.new.store.now.forest.sealed ≡ self.old.store.now.forest.sealed }
+    {
+        self.store.create_transfers(events, now, &mut self.share)
+    }
+
+    /// Lets due pending transfers expire, at most so many, as `pulse` of `tf_pending` does.
+    pub(crate) fn pulse(&mut self, now: u64, max: u32) -> Result<u32, Refusal>
+        ensures run { IsPulseRun (λ f. f.journal) (λ f. f.clock) (λ f. f.kept) self.old.store.now.forest self.new.store.now.forest now max result }
+        ensures sealed { self.new.store.now.forest.sealed ≡ self.old.store.now.forest.sealed }
+    {
+        self.store.pulse(now, max, &mut self.share)
     }
 }

@@ -12,13 +12,14 @@ use std::marker::Brand;
 use std::process::Abort;
 use std::sync::Wait;
 use std::test::Fail;
+use tf_forest::Forest;
 use tf_manifest::Registries;
 use tf_mutable_rows::MutableTables;
 use tf_query::Version;
 use tf_readers::{Copies, Publishable, Reader};
 use tf_records::Refusal;
 use tf_registry::Pushes;
-use tf_rows::{EmptyRows, SealRows};
+use tf_rows::{AllRows, EmptyRows, SealRows};
 use tf_store::{
     BlankStore, Share, Store, StoreName, StoreOf, StoredCopies, StoredForest, VersionCopies,
     VersionOf,
@@ -182,18 +183,19 @@ fn assert_left<V: Publishable + Drop, A: Allocator, S: StoreName>(
     }
 }
 
-/// The end of a store: its shares are gathered, and it is dropped, before its readers and the versions that were taken.
-fn end<T, A, S, C, V, R>(
+/// The end of a store: its shares are gathered, and it is dropped, before its readers and the versions that were taken. It is
+/// generic in the rows, so that none of its calls takes those apart.
+fn end<F, A, S, C, V, R>(
     rt: &R,
     trial: &Trial<'_>,
-    mut store: StoreOf<T, C, A, S>,
+    mut store: Store<Forest<F, A>, C, A, S>,
     parties: Parties<V, A, S>,
 )
 where
-    T: SealRows<A> + Drop,
+    F: AllRows + Drop,
     A: Allocator + Copy,
     S: StoreName,
-    C: VersionCopies<Version<A, S>, S> + Drop,
+    C: StoredCopies + Drop,
     V: Publishable + Drop,
     R: Abort + AllocGlobal + Wait,
     requires { S.parts ≡ 64 }

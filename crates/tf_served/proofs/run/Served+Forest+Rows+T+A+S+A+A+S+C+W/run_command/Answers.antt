@@ -1,33 +1,20 @@
-use Rattle.std.proofs.Common.{true, refl, ap}
+use Rattle.std.proofs.Common.{true, refl}
 use Rattle.tf_journal.specs.Answer.{looked_up_accounts, looked_up_transfers}
-use Rattle.tf_events.specs.Chain as kind
 use Rattle.tf_script.specs.Command.{accounts, transfers, pulse, publish, compact, query, lookup_accounts, lookup_transfers}
 use Rattle.tf_main.specs.Line.{account_line, compacted_line, published_line, transfer_line}
-use Rattle.tf_rows.specs.Counts.{Sealed}
-use Rattle.tf_served.proofs.Views.{journal_of, clock_of, kept_of, publishes_of}
+use Rattle.tf_served.proofs.Views.{journal_of, clock_of, publishes_of}
 use Rattle.tf_served.proofs.Serving.{done_or_full, nothing_to_do}
-use Rattle.tf_main.proofs.Answered.{batch_run, found_run, pulse_run, served_run, any_answer}
+use Rattle.tf_main.proofs.Answered.{found_run, served_run, any_answer}
 use Rattle.tf_served.proofs.run.Served+Forest+Rows+T+A+S+A+A+S+C+W.run_command.Goals as goal
 
 pub returns-in-Accounts-clause-run : goal.returns-in-Accounts-clause-run
-returns-in-Accounts-clause-run g c = rw c.in-Accounts.is
-    (batch_run kind.accounts true journal_of clock_of kept_of publishes_of c.args.self.now.store.now.forest c.create_accounts-outcome.new.self.store.now.forest
-    c.in-Accounts.events.items c.in-Accounts.now c.create_accounts-outcome.result c.clock.result _ _
-    (accounts c.in-Accounts.now c.in-Accounts.events.items) c.write_batch.result refl refl refl c.clock.ensures
-    (rw c.as_slice.ensures.value at c.create_accounts-outcome.ensures.run) (ap (λ (s : Sealed). s.counts.publishes) c.create_accounts-outcome.ensures.sealed) c.write_batch.ensures)
+returns-in-Accounts-clause-run g c = rw c.in-Accounts.is (rw c.as_slice.ensures.value at c.run_accounts.ensures)
 
 pub returns-in-Transfers-clause-run : goal.returns-in-Transfers-clause-run
-returns-in-Transfers-clause-run g c = rw c.in-Transfers.is
-    (batch_run kind.transfers true journal_of clock_of kept_of publishes_of c.args.self.now.store.now.forest c.create_transfers-outcome.new.self.store.now.forest
-    c.in-Transfers.events.items c.in-Transfers.now c.create_transfers-outcome.result c.clock-in-Transfers.result _ _
-    (transfers c.in-Transfers.now c.in-Transfers.events.items) c.write_batch-in-Transfers.result refl refl refl c.clock-in-Transfers.ensures
-    (rw c.as_slice-in-Transfers.ensures.value at c.create_transfers-outcome.ensures.run) (ap (λ (s : Sealed). s.counts.publishes) c.create_transfers-outcome.ensures.sealed) c.write_batch-in-Transfers.ensures)
+returns-in-Transfers-clause-run g c = rw c.in-Transfers.is (rw c.as_slice-in-Transfers.ensures.value at c.run_transfers.ensures)
 
 pub returns-in-Pulse-clause-run : goal.returns-in-Pulse-clause-run
-returns-in-Pulse-clause-run g c = rw c.in-Pulse.is
-    (pulse_run true journal_of clock_of kept_of publishes_of c.args.self.now.store.now.forest c.pulse-outcome.new.self.store.now.forest
-    c.in-Pulse.now c.in-Pulse.max c.pulse-outcome.result c.clock-in-Pulse.result _ _ c.write_pulsed.result c.clock-in-Pulse.ensures
-    c.pulse-outcome.ensures.run (ap (λ (s : Sealed). s.counts.publishes) c.pulse-outcome.ensures.sealed) c.write_pulsed.ensures)
+returns-in-Pulse-clause-run g c = rw c.in-Pulse.is c.run_pulse.ensures
 
 pub returns-in-Publish-clause-run : goal.returns-in-Publish-clause-run
 returns-in-Publish-clause-run g c = rw c.in-Publish.is
@@ -58,13 +45,13 @@ returns-in-LookupTransfers-clause-run g c = rw c.in-LookupTransfers.is
     (rw c.as_slice-in-LookupTransfers.ensures.value at c.lookup_transfers.ensures.ok) c.requires c.write_found-in-LookupTransfers.ensures)
 
 pub returns-in-Accounts-clause-done : goal.returns-in-Accounts-clause-done
-returns-in-Accounts-clause-done g c = rw c.in-Accounts.is (nothing_to_do (accounts c.in-Accounts.now c.in-Accounts.events.items) c.create_accounts-outcome.new.self.store.now.forest _ _ _ tt)
+returns-in-Accounts-clause-done g c = rw c.in-Accounts.is (nothing_to_do (accounts c.in-Accounts.now c.in-Accounts.events.items) c.run_accounts.new.self.store.now.forest _ _ _ tt)
 
 pub returns-in-Transfers-clause-done : goal.returns-in-Transfers-clause-done
-returns-in-Transfers-clause-done g c = rw c.in-Transfers.is (nothing_to_do (transfers c.in-Transfers.now c.in-Transfers.events.items) c.create_transfers-outcome.new.self.store.now.forest _ _ _ tt)
+returns-in-Transfers-clause-done g c = rw c.in-Transfers.is (nothing_to_do (transfers c.in-Transfers.now c.in-Transfers.events.items) c.run_transfers.new.self.store.now.forest _ _ _ tt)
 
 pub returns-in-Pulse-clause-done : goal.returns-in-Pulse-clause-done
-returns-in-Pulse-clause-done g c = rw c.in-Pulse.is (nothing_to_do (pulse c.in-Pulse.now c.in-Pulse.max) c.pulse-outcome.new.self.store.now.forest _ _ _ tt)
+returns-in-Pulse-clause-done g c = rw c.in-Pulse.is (nothing_to_do (pulse c.in-Pulse.now c.in-Pulse.max) c.run_pulse.new.self.store.now.forest _ _ _ tt)
 
 pub returns-in-LookupAccounts-clause-done : goal.returns-in-LookupAccounts-clause-done
 returns-in-LookupAccounts-clause-done g c = rw c.in-LookupAccounts.is (nothing_to_do (lookup_accounts c.in-LookupAccounts.ids.items) c.lookup_accounts.new.self.store.now.forest _ _ _ tt)

@@ -3,3 +3,9 @@ use Rattle.tf_served.proofs.served.Served+Forest+Rows+T+A+S+A+A+S+C+W.facts.Goal
 
 pub returns-clause-few : goal.returns-clause-few
 returns-clause-few g c = forest_needs_few c.forest.result.now c.args.self.now.store.now.forest c.forest.ensures.forest c.facts.ensures.waits
+
+pub returns-clause-bounded : goal.returns-clause-bounded
+returns-clause-bounded g c = c.facts-book.ensures.bounded
+
+pub returns-clause-roomy : goal.returns-clause-roomy
+returns-clause-roomy g c = c.args.self.now.roomy
