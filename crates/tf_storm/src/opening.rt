@@ -1,5 +1,6 @@
 //! The making of a store that threads share, step by step: each step says one thing more of it.
-ghost use Rattle.std.specs.Prelude.{◌≡◌, ◌<◌, ◌≤◌, vec_len, IfOk, MatchResult};
+ghost use Rattle.std.specs.Prelude.{◌≡◌, ◌<◌, ◌≤◌, vec_len, IfErr, IfOk, MatchResult};
+ghost use Rattle.std.specs.Result.{is_ok};
 ghost use Rattle.tf_manifest.specs.Registries.{AreShelves};
 ghost use Rattle.tf_store.specs.Book.{book_of};
 ghost use Rattle.tf_store.specs.Rooms.{FitsRows};
@@ -168,14 +169,59 @@ where
     requires shares { IfOk opened (λ o. (vec_len o.1 ≡ vec_len tasks.now.works) × (vec_len o.1 ≡ S.parts)) }
     ensures { MatchResult result (λ counted. AreTotals (vec_len tasks.now.works) counted.0) StopsWorking }
 {
-    let (store, shares, readers) = match opened {
-        Ok(opened) => opened,
-        Err(_) => return Err(RunStormFault::Run(RunFault::NoMemory)),
-    };
+    match opened {
+        Ok((store, shares, readers)) => storm_over(rt, alloc, store, shares, readers, tasks, gate),
+        Err(_) => Err(RunStormFault::Run(RunFault::NoMemory)),
+    }
+}
+
+/// Runs tasks over a new store.
+fn storm_over<T, S, C, V, R, G>(
+    rt: &R,
+    alloc: Global,
+    store: StoreOf<T, C, Global, S>,
+    shares: Vec<Share<S>, Global>,
+    readers: Vec<Reader<V, Global, S>, Global>,
+    tasks: &Tasks,
+    gate: &G,
+) -> Result<Counted, RunStormFault>
+where
+    T: SealRows<Global> + Send + Drop,
+    S: StoreName + Send + Sync,
+    C: VersionCopies<Version<Global, S>, S> + Send + Drop,
+    V: Publishable + Send + Sync + Drop,
+    R: Wait + Threads + Sync,
+    G: Gate + Sync,
+    requires few { (0 < vec_len tasks.now.works) × (vec_len tasks.now.works ≤ 64) }
+    requires asks { vec_len tasks.now.asks ≡ 2 }
+    requires readers { vec_len readers ≤ 2 }
+    requires shares { (vec_len shares ≡ vec_len tasks.now.works) × (vec_len shares ≡ S.parts) }
+    ensures { MatchResult result (λ counted. AreTotals (vec_len tasks.now.works) counted.0) StopsWorking }
+{
     let works = tasks.works.as_slice();
     let asks = tasks.asks.as_slice();
-    match storm(rt, alloc, alloc, store, shares, readers, works, asks, gate) {
-        Ok((store, totals, done)) => Ok((settled(&store, totals), done)),
+    told(storm(rt, alloc, alloc, store, shares, readers, works, asks, gate))
+}
+
+/// What was counted, once the store is dropped.
+fn told<T, C, S>(
+    ended: Result<(StoreOf<T, C, Global, S>, Totals, Vec<Done, Global>), StormFault>,
+) -> Result<Counted, RunStormFault>
+where
+    T: SealRows<Global> + Drop,
+    C: VersionCopies<Version<Global, S>, S> + Drop,
+    S: StoreName,
+    requires stored { IfOk ended (λ e. e.1.stored ≡ book_of e.0.forest.journal) }
+    ensures same { is_ok result ≡ is_ok ended }
+    ensures totals { IfOk result (λ counted. IfOk ended (λ e. (counted.0 ≡ e.1) × IsBook e.1.stored)) }
+    ensures fault { IfErr result StopsWorking }
+{
+    match ended {
+        Ok((store, totals, done)) => {
+            let totals = settled(&store, totals);
+            drop(store);
+            Ok((totals, done))
+        }
         Err(StormFault::NoMemory) => Err(RunStormFault::Run(RunFault::NoMemory)),
         Err(StormFault::NoThread) => Err(RunStormFault::NoThread),
     }
