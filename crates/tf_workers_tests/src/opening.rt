@@ -154,17 +154,42 @@ where
     requires readers { IfOk opened (λ o. vec_len o.2 ≤ 2) }
     requires shares { IfOk opened (λ o. (vec_len o.1 ≡ vec_len tasks.now.works) × (vec_len o.1 ≡ S.parts)) }
 {
-    let (store, shares, readers) = match opened {
-        Ok(opened) => opened,
-        Err(_) => return Tried::Nothing,
-    };
-    let readers = match watched(alloc, readers, tasks.answers) {
-        Ok(readers) => readers,
-        Err(_) => {
-            drop(store);
-            return Tried::Nothing;
+    match opened {
+        Ok((store, shares, readers)) => {
+            match watched(alloc, readers, tasks.answers) {
+                Ok(readers) => with_readers(rt, alloc, store, shares, readers, tasks, trial, gate),
+                Err(_) => {
+                    drop(store);
+                    Tried::Nothing
+                }
+            }
         }
-    };
+        Err(_) => Tried::Nothing,
+    }
+}
+
+/// On a new store whose readers are watched.
+fn with_readers<T, S, C, V, R>(
+    rt: &R,
+    alloc: Global,
+    store: StoreOf<T, C, Global, S>,
+    shares: Vec<Share<S>, Global>,
+    readers: Vec<WatchedReader<V, S>, Global>,
+    tasks: &Tasks,
+    trial: Trial,
+    gate: &Meetings,
+) -> Tried
+where
+    T: SealRows<Global> + Send + Drop,
+    S: StoreName + Send + Sync,
+    C: VersionCopies<Version<Global, S>, S> + Send + Drop,
+    V: Publishable + Send + Sync + Drop,
+    R: Wait + Threads + Sync,
+    requires clients { (0 < vec_len tasks.now.works) × (vec_len tasks.now.works ≤ 64) }
+    requires asks { vec_len tasks.now.asks ≡ 2 }
+    requires readers { vec_len readers ≤ 2 }
+    requires shares { (vec_len shares ≡ vec_len tasks.now.works) × (vec_len shares ≡ S.parts) }
+{
     match trial {
         Trial::Storm => {
             let works = tasks.works.as_slice();
