@@ -209,6 +209,29 @@ where
     drop(taken);
 }
 
+/// Runs a text on a new store, and ends it.
+fn try_opened<T, A, S, C, V, R>(
+    rt: &R,
+    alloc: A,
+    trial: &mut Trial<'_>,
+    store: StoreOf<T, C, A, S>,
+    given: Given<V, A, S>,
+    text: &str,
+)
+where
+    T: SealRows<A> + Drop,
+    A: Allocator + Copy,
+    S: StoreName,
+    C: VersionCopies<Version<A, S>, S> + Drop,
+    V: Publishable + Drop,
+    R: Abort + AllocGlobal + Wait,
+    requires { S.parts ≡ 64 }
+{
+    let mut store = store;
+    let parties = try_store(rt, alloc, trial, &mut store, given, text);
+    end(rt, trial, store, parties);
+}
+
 /// Runs a text on a new store, unless there is no memory for it. It is generic in what readers enter.
 fn with_copies<T, A, S, C, V, R>(
     rt: &R,
@@ -235,10 +258,7 @@ where
 {
     match opened {
         Ok((store, shares, readers)) => {
-            let mut store = store;
-            let given = (shares, readers);
-            let parties = try_store(rt, alloc, trial, &mut store, given, course.text);
-            end(rt, trial, store, parties);
+            try_opened(rt, alloc, trial, store, (shares, readers), course.text);
         }
         Err(refusal) => {
             assert!(rt; course.fixture.lacks_memory && refusal == Refusal::NoMemory);

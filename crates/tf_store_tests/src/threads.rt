@@ -124,14 +124,35 @@ where
     V: Publishable + Drop,
     R: Wait + Threads + Sync,
 {
-    let Ok((store, mut shares, mut readers)) = opened else {
-        return false;
-    };
-    let (Some(share), Some(reader)) = (shares.pop(), readers.pop()) else {
-        drop(store);
-        return false;
-    };
-    publish_beside(rt, alloc, store, share, reader)
+    match opened {
+        Ok((store, shares, readers)) => with_parties(rt, alloc, store, shares, readers),
+        Err(_) => false,
+    }
+}
+
+/// The same with a share and a reader of a new store.
+fn with_parties<T, S, C, V, R>(
+    rt: &R,
+    alloc: Global,
+    store: StoreOf<T, C, Global, S>,
+    shares: Vec<Share<S>, Global>,
+    readers: Vec<Reader<V, Global, S>, Global>,
+) -> bool
+where
+    T: SealRows<Global> + Send + Drop,
+    S: StoreName + Send + Sync,
+    C: VersionCopies<Version<Global, S>, S> + Send + Drop,
+    V: Publishable + Drop,
+    R: Wait + Threads + Sync,
+{
+    let (mut shares, mut readers) = (shares, readers);
+    match (shares.pop(), readers.pop()) {
+        (Some(share), Some(reader)) => publish_beside(rt, alloc, store, share, reader),
+        _ => {
+            drop(store);
+            false
+        }
+    }
 }
 
 /// With a store of one share and one reader. It is generic in the version that readers are shown, which is named where no store is.
