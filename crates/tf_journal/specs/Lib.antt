@@ -17,3 +17,4 @@ pub mod Laws
 -- What contracts of its parts and proofs alone speak of.
 pub mod Steps
 pub mod Expired
+pub mod Walk

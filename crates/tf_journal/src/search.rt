@@ -1,11 +1,12 @@
 //! The one walk over a journal by which every filter is answered.
 
 ghost use Rattle.std.specs.Prelude.{◌≡◌, false, List, Option, map, IfErr, IfOk, IsOk, take, reverse};
-ghost use Rattle.std.specs.List.{filter as keep, filter_map};
+ghost use Rattle.std.specs.List.{filter_map};
 ghost use Rattle.tf_journal.specs.declared.entry.Entry.{Entry};
 ghost use Rattle.tf_journal.specs.Answer.{answer_of};
 ghost use Rattle.tf_journal.specs.Filter.{Search};
 ghost use Rattle.tf_journal.specs.Lawful.{IsSound};
+ghost use Rattle.tf_journal.specs.Walk.{accepted_row};
 
 use crate::Entry;
 use std::alloc::{AllocError, Allocator};
@@ -87,6 +88,19 @@ pub fn answer<Q: Query, A: Allocator>(
     }
 }
 
+/// The row of an entry, where it has a record that a query accepts.
+fn row_in<Q: Query>(query: &Q, entries: &[Entry], entry: &Entry) -> Option<Q::Row>
+    requires { ∥ IsSound entries.now ∥₁ }
+    ensures { result ≡ accepted_row Q.found_in (Q.asks query.now).accepts (Q.row_of query.now entries.now) entry.now }
+{
+    let found = query.find_in(entry)?;
+    if query.accepts(&found) {
+        Some(query.row(entries, found))
+    } else {
+        None
+    }
+}
+
 /// The rows of the first records that a query accepts.
 fn first_rows<Q: Query, A: Allocator>(
     alloc: A,
@@ -95,14 +109,12 @@ fn first_rows<Q: Query, A: Allocator>(
     most: usize,
 ) -> Result<Vec<Q::Row, A>, AllocError>
     requires { ∥ IsSound entries.now ∥₁ }
-    ensures { IfOk result (λ rows. rows.items ≡ take most (map (Q.row_of query.now entries.now)
-        (keep (Q.asks query.now).accepts (filter_map Q.found_in entries.now)))) }
+    ensures { IfOk result (λ rows. rows.items ≡ take most (filter_map
+        (accepted_row Q.found_in (Q.asks query.now).accepts (Q.row_of query.now entries.now)) entries.now)) }
 {
     entries
         .iter()
-        .filter_map(|entry| query.find_in(entry))
-        .filter(|found| query.accepts(found))
-        .map(|found| query.row(entries, found))
+        .filter_map(|entry| row_in(query, entries, entry))
         .take(most)
         .collect(alloc)
 }
@@ -115,15 +127,13 @@ fn last_rows<Q: Query, A: Allocator>(
     most: usize,
 ) -> Result<Vec<Q::Row, A>, AllocError>
     requires { ∥ IsSound entries.now ∥₁ }
-    ensures { IfOk result (λ rows. rows.items ≡ take most (map (Q.row_of query.now entries.now)
-        (keep (Q.asks query.now).accepts (filter_map Q.found_in (reverse entries.now))))) }
+    ensures { IfOk result (λ rows. rows.items ≡ take most (filter_map
+        (accepted_row Q.found_in (Q.asks query.now).accepts (Q.row_of query.now entries.now)) (reverse entries.now))) }
 {
     entries
         .iter()
         .rev()
-        .filter_map(|entry| query.find_in(entry))
-        .filter(|found| query.accepts(found))
-        .map(|found| query.row(entries, found))
+        .filter_map(|entry| row_in(query, entries, entry))
         .take(most)
         .collect(alloc)
 }
