@@ -7,6 +7,8 @@ mod asserts;
 #[cfg(test)]
 mod endings;
 #[cfg(test)]
+mod memory;
+#[cfg(test)]
 mod scripts;
 #[cfg(test)]
 mod sizes;

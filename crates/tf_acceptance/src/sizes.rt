@@ -126,6 +126,43 @@ query_accounts limit=1";
     )
 }
 
+/// A chain has as many links as a batch has events. It is stored whole, or fails whole by its last link.
+#[test]
+fn a_chain_has_8190_links(rt: HostRuntime) -> Result<(), Fail> {
+    const CHAINS: &str = "\
+accounts 0
+@events 1 8189 0 ledger=700 code=10 flags=linked
+@events 8190 8190 0 ledger=700 code=10
+end
+accounts 0
+@events 10001 18189 0 ledger=700 code=10 flags=linked
+@events 18190 18190 0 code=10
+end
+transfers 0
+@events 1 8189 0 debit_account_id=1 credit_account_id=2 amount=1 ledger=700 code=1 flags=linked
+@events 8190 8190 0 debit_account_id=1 credit_account_id=2 amount=1 ledger=700 code=1
+end
+transfers 0
+@events 10001 18189 0 debit_account_id=1 credit_account_id=2 amount=1 ledger=700 code=1 flags=linked
+@events 18190 18190 0 debit_account_id=1 credit_account_id=2 amount=1 code=1
+end
+query_accounts limit=1 flags=reversed
+lookup_accounts 1";
+    assert_ends(
+        &rt,
+        CHAINS,
+        "\
+8188 linked_event_failed
+8189 ledger_must_not_be_zero
+clock 32760
+account id=8190 debits_pending=0 debits_posted=0 credits_pending=0 credits_posted=0 user_data_128=0 user_data_64=0 user_data_32=0 ledger=700 code=10 flags=0 timestamp=8190
+rows 1
+account id=1 debits_pending=0 debits_posted=8190 credits_pending=0 credits_posted=0 user_data_128=0 user_data_64=0 user_data_32=0 ledger=700 code=10 flags=1 timestamp=1
+rows 1
+",
+    )
+}
+
 #[test]
 fn a_pulse_expires_at_most_8190(rt: HostRuntime) -> Result<(), Fail> {
     const PENDING: &str = "\

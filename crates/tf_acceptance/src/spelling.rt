@@ -5,7 +5,7 @@
 //! | `@events FIRST LAST LESS FIELDS` | an event with these fields for each id from FIRST to LAST; `#` in a field is the id less LESS |
 //! | `@batches NAME FIRST LAST LESS FIELDS` | the same in batches with that name at moment 0, each as large as a batch may be |
 //! | `@ids FIRST LAST COMMAND` | the command, with these ids behind it |
-//! | `@times COUNT LINE` | the line, so often |
+//! | `@times COUNT LINE; LINE ..` | the lines, so often |
 
 use std::alloc::{AllocError, Global};
 
@@ -83,12 +83,14 @@ fn push_ids(alloc: Global, script: &mut String, rest: &str) -> Result<(), AllocE
     script.push_str("\n")
 }
 
-/// Adds a line so often.
+/// Adds lines so often.
 fn push_times(script: &mut String, rest: &str) -> Result<(), AllocError> {
-    let (count, line) = first_number(rest);
+    let (count, lines) = first_number(rest);
     for _ in 0..count {
-        script.push_str(line)?;
-        script.push_str("\n")?;
+        for line in lines.split("; ") {
+            script.push_str(line)?;
+            script.push_str("\n")?;
+        }
     }
     Ok(())
 }

@@ -54,7 +54,8 @@ ids 0
 accounts | publish: 1
 repeat 1 1001 transfers N 1 | publish: 1 | run compact | show
 used: 2700000
-take | ask taken 0 now: 1000";
+take | ask taken 0 now: 1000
+give 0 | ask given 0 now: 1000 | let_given | follow 0 | ask held 0 now: 1000";
 
 #[test]
 fn memory_for_a_thousand_merged_publishes_is_that_of_what_is_kept(
