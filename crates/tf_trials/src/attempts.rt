@@ -54,13 +54,32 @@ fn answered<F: Tried>(
     word: &str,
 ) -> Result<Option<bool>, Refusal> {
     match attempt {
-        Attempt::Run(command) => {
-            let outcome = run(store, trial.share, command);
-            ran(alloc, trial, &outcome, command, word)
-        }
-        Attempt::Publish(learner) => Ok(published(trial, publish(store, learner), word)),
+        Attempt::Run(command) => run_answered(alloc, store, trial, command, word),
+        Attempt::Publish(learner) => Ok(publish_answered(store, trial, learner, word)),
         Attempt::Take => Ok(taken(act(store, Act::Take), word)),
     }
+}
+
+/// The same of a batch or a pulse.
+fn run_answered<F: Tried>(
+    alloc: Global,
+    store: &mut F,
+    trial: &mut Trial<'_>,
+    command: &Command<Global>,
+    word: &str,
+) -> Result<Option<bool>, Refusal> {
+    let outcome = run(store, trial.share, command);
+    ran(alloc, trial, &outcome, command, word)
+}
+
+/// The same of a publish.
+fn publish_answered<F: Tried>(
+    store: &mut F,
+    trial: &mut Trial<'_>,
+    learner: Option<usize>,
+    word: &str,
+) -> Option<bool> {
+    published(trial, publish(store, learner), word)
 }
 
 /// Whether an outcome is that of the plain ledger and of a word.

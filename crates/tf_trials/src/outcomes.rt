@@ -7,13 +7,21 @@ use tf_records::Refusal;
 
 /// Whether a word names a refusal. `any` names that for want of memory.
 pub fn is_refusal(refusal: Refusal, word: &str) -> bool {
+    match name_of(refusal) {
+        Some(name) => word == name || refusal == Refusal::NoMemory && word == "any",
+        None => false,
+    }
+}
+
+/// The word for a refusal of a call. Faults of scripts and of records have none.
+fn name_of(refusal: Refusal) -> Option<&'static str> {
     match refusal {
-        Refusal::NoMemory => word == "no_memory" || word == "any",
-        Refusal::BatchTooLarge => word == "batch_too_large",
-        Refusal::ClockExhausted => word == "clock_exhausted",
-        Refusal::Stale => word == "stale",
-        Refusal::RegistryFull => word == "registry_full",
-        _ => false,
+        Refusal::NoMemory => Some("no_memory"),
+        Refusal::BatchTooLarge => Some("batch_too_large"),
+        Refusal::ClockExhausted => Some("clock_exhausted"),
+        Refusal::Stale => Some("stale"),
+        Refusal::RegistryFull => Some("registry_full"),
+        _ => None,
     }
 }
 

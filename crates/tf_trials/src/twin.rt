@@ -55,7 +55,7 @@ impl Twin {
         let expected = self.plain.run(alloc, command);
         let is_right = is_same(outcome, &expected);
         self.since.push(copy_of(alloc, command)?)?;
-        if let Ok(Answer::Batch(reply)) = expected {
+        if let Some(reply) = reply_of(expected) {
             self.wait(alloc, command, clock, reply)?;
         }
         Ok(is_right)
@@ -83,6 +83,14 @@ impl Twin {
         let is_right = are_told(told, &self.waiting);
         self.waiting.clear();
         is_right
+    }
+}
+
+/// What a batch that ran answered.
+fn reply_of(outcome: Outcome) -> Option<Reply<Global>> {
+    match outcome {
+        Ok(Answer::Batch(reply)) => Some(reply),
+        _ => None,
     }
 }
 
