@@ -1,6 +1,6 @@
 -- Events cut into chains.
 use Rattle.std.proofs.Common.{◌≡◌, ℕ, ◌+◌, ◌-◌, ◌<◌, ◌≤◌, List, [], ◌∷◌, ◌++◌, Some, None, Bool, true, false, subst, sym, ap, arith, drop, take, length, get_or, append_assoc, append-nil, refl, ◌∙◌, suc, add-one, inl, inr, ◌⊎◌}
-use Rattle.std.proofs.lemmas.List.{length-append, length-take, length-take-le, take_all, take_more}
+use Rattle.std.proofs.lemmas.List.{drop_more, length-append, length-drop, length-take, length-take-le, take_all, take_more, take_rest}
 use Rattle.tf_records.specs.declared.reply.Failure.{Failure}
 use Rattle.tf_journal.specs.declared.entry.Entry.{Entry}
 use Rattle.tf_events.specs.Batch.{chains_from, chains_of, chains_step, placed}
@@ -206,3 +206,28 @@ step_open kind journal after index timestamp events last before noted one some i
     (single_open kind [] index timestamp front last (subst (λ all. chain_length kind all ≡ length all) split one) linked) in
     let step = chain_step kind journal (record { events = placed index timestamp front; open_end = Some end }) in
     rw chains (record { stored = taken.stored; failures = taken.failures ∙ ap (λ f. before ++ f) (sym (append-nil step.failures)) })
+
+-- all but the last of some events
+pub length-front : {E : Type 0} (events : List E) → 0 < length events → length (take (length events - 1) events) + 1 ≡ length events
+length-front events some = omega (arith, length-take-le (length events - 1) events (omega arith))
+
+-- after a linked event the first chain goes on with the next
+pub linked_more : {E : Type 0} (kind : Kind E) (events : List E) (i : ℕ) (e : E) → i < length events → e ≡ get_or events i e → kind.linked e ≡ true
+    → chain_length kind events ≡ chain_length kind (drop i events) + i → chain_length kind events ≡ chain_length kind (drop (i + 1) events) + (i + 1)
+linked_more kind events i e within is linked so_far =
+    let next : drop i events ≡ e ∷ drop (i + 1) events = drop_more events i e within ∙ ap (λ x. x ∷ drop (i + 1) events) (sym is) in
+    omega (arith, so_far, ap (chain_length kind) next ∙ chain_length-linked kind e (drop (i + 1) events) linked)
+
+-- and ends with one that isn't linked
+pub unlinked_last : {E : Type 0} (kind : Kind E) (events : List E) (i : ℕ) (e : E) → i < length events → e ≡ get_or events i e → kind.linked e ≡ false
+    → chain_length kind events ≡ chain_length kind (drop i events) + i → i + 1 ≡ chain_length kind events
+unlinked_last kind events i e within is ends so_far =
+    let next : drop i events ≡ e ∷ drop (i + 1) events = drop_more events i e within ∙ ap (λ x. x ∷ drop (i + 1) events) (sym is) in
+    omega (arith, so_far, ap (chain_length kind) next ∙ chain_length-end kind e (drop (i + 1) events) ends)
+
+-- the first chain of what is left of some events ends within them
+pub first_within : {E : Type 0} (kind : Kind E) (events : List E) (start n : ℕ) → start < length events → n ≡ chain_length kind (take (length events - start) (drop start events))
+    → start + length (take n (take (length events - start) (drop start events))) ≤ length events
+first_within kind events start n more is =
+    let rest = take (length events - start) (drop start events) in
+    omega (arith, first_chain_length kind rest n is, is, chain_length-within kind rest, ap length (take_rest events start), length-drop start events)

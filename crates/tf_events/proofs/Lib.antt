@@ -4,3 +4,4 @@ pub mod Chained
 pub mod Left
 pub mod Judged
 pub mod Paired
+pub mod Batches

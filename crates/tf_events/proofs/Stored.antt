@@ -1,6 +1,6 @@
 -- The events of a chain, stored one after another.
 use Rattle.std.proofs.Common.{◌≡◌, ℕ, ◌+◌, ◌<◌, ◌≤◌, List, [], ◌∷◌, ◌++◌, Option, Some, None, false, true, subst, sym, ap, arith, drop, take, length, get_or, append_assoc, append-nil, refl, ◌∙◌, ◌≢◌, eq-eqb, ne_eqb, IfErr, IfSome, Result, Ok, Err, OnOk}
-use Rattle.std.proofs.lemmas.List.{drop_more, take_at}
+use Rattle.std.proofs.lemmas.List.{drop_all, drop_more, length-append, take_at}
 use Rattle.std.proofs.lemmas.List.Elements.{All-nil, All-weaker}
 use Rattle.std.specs.List.{All}
 use Rattle.std.specs.Option.{is_some, option_map}
@@ -245,3 +245,20 @@ on_ok (Err f) p = tt
 pub on_ok_map : {X F : Type 0} {P Q : Type 0} (r : Result X F) → (P → Q) → OnOk r P → OnOk r Q
 on_ok_map (Ok x) f p = f p
 on_ok_map (Err e) f p = tt
+
+-- a journal that went on is no shorter
+pub extends_longer : (journal longer : List Entry) (n : ℕ) → n ≡ length journal → Extends journal longer → n ≤ length longer
+extends_longer journal longer n is extends = rw (extends.is) (omega (arith, is, length-append journal extends.more))
+
+-- from the first place on, all events are left
+pub placed-all : {E : Type 0} (index timestamp : ℕ) (events : List E) → placed (index + 0) (timestamp + 0) (drop 0 events) ≡ placed index timestamp events
+placed-all index timestamp events =
+    let first : index + 0 ≡ index = omega arith in
+    let start : timestamp + 0 ≡ timestamp = omega arith in
+    rw (first, start) refl
+
+-- behind the last event nothing is left to note
+pub noted-all : {E : Type 0} (own : Option (OwnFailure E)) (noted whole : List Failure) (index timestamp i : ℕ) (events : List E) → length events ≤ i
+    → noted ++ failures_of own (placed (index + i) (timestamp + i) (drop i events)) ≡ whole → noted ≡ whole
+noted-all own noted whole index timestamp i events past is =
+    sym (ap (λ es. noted ++ failures_of own (placed (index + i) (timestamp + i) es)) (drop_all i events past) ∙ append-nil noted) ∙ is

@@ -1,14 +1,15 @@
 -- The verdict on a post or void, by what each step of judging it found.
-use Rattle.std.proofs.Common.{◌≡◌, ℕ, List, [], ◌∷◌, true, false, Option, Some, None, Err, Ok, refl, ap, sym, ◌∙◌, if◌then◌else◌}
+use Rattle.std.proofs.Common.{◌≡◌, ℕ, Bool, List, [], ◌∷◌, true, false, Option, Some, None, Err, Ok, refl, ap, sym, ◌∙◌, if◌then◌else◌}
 use Rattle.std.proofs.lemmas.Bool.{false_from_ne_true}
 use Rattle.std.specs.Option.{option_map_or, unwrap_or}
 use Rattle.tf_records.specs.declared.outcome.Outcome.{Outcome}
 use Rattle.tf_records.specs.declared.outcome.Outcome.TheVariants as outcome
 use Rattle.tf_records.specs.declared.transfer.Transfer.{Transfer}
 use Rattle.tf_journal.specs.declared.entry.Entry.{Entry}
+use Rattle.tf_journal.specs.declared.id_use.IdUse.TheVariants as id_use
 use Rattle.tf_journal.specs.Flags.{is_settling}
 use Rattle.tf_journal.specs.Journal.{is_failed}
-use Rattle.tf_journal.specs.Lookup.{transfer_with_id}
+use Rattle.tf_journal.specs.Lookup.{id_use_of, transfer_with_id, unstored_use}
 use Rattle.tf_journal.specs.Stored.{filled_in, stamped, settled}
 use Rattle.tf_journal.specs.Verdict.{compared, first_fault, is_accepted, moving_verdict, named_fault, pending_faults, repeated, settling_faults, settling_verdict, transfer_differences, transfer_faults, transfer_verdict, used_id_fault, verdict_of}
 use Rattle.tf_journal.proofs.Accepted.{first_fault-refuses, used_id_refuses}
@@ -21,11 +22,37 @@ pub record IsFaultless (e : Transfer) : Type 0 where
   pub faults : first_fault (transfer_faults e) ≡ None
   pub own_faults : first_fault (settling_faults e) ≡ None
 
+-- the fault of an id that a stored transfer has
+stored_fault : (e stored : Transfer) (found : Option Transfer) (failed : Bool) → option_map_or id_use.Stored found (unstored_use failed) ≡ id_use.Stored stored
+    → option_map_or (λ t. Some (repeated (transfer_differences e t))) found (if failed then Some outcome.IdAlreadyFailed else None) ≡ Some (repeated (transfer_differences e stored))
+stored_fault e stored (Some t) failed is = let same : t ≡ stored = cc in ap (λ x. Some (repeated (transfer_differences e x))) same
+stored_fault e stored None true is = absurd (cc)
+stored_fault e stored None false is = absurd (cc)
+
+pub fault_of_stored : (journal : List Entry) (e stored : Transfer) → id_use_of journal e.id ≡ id_use.Stored stored
+    → fault_of_id journal e ≡ Some (repeated (transfer_differences e stored))
+fault_of_stored journal e stored is = stored_fault e stored (transfer_with_id journal e.id) (is_failed journal e.id) is
+
+-- and that of a free one
+free_fault : (e : Transfer) (found : Option Transfer) (failed : Bool) → option_map_or id_use.Stored found (unstored_use failed) ≡ id_use.Free
+    → option_map_or (λ t. Some (repeated (transfer_differences e t))) found (if failed then Some outcome.IdAlreadyFailed else None) ≡ None
+free_fault e (Some t) failed is = absurd (cc)
+free_fault e None true is = absurd (cc)
+free_fault e None false is = refl
+
+pub fault_of_free : (journal : List Entry) (e : Transfer) → id_use_of journal e.id ≡ id_use.Free → fault_of_id journal e ≡ None
+fault_of_free journal e is = free_fault e (transfer_with_id journal e.id) (is_failed journal e.id) is
+
 -- the id of an event that is compared as another one with its id
 used_as : (journal : List Entry) (e other : Transfer) → compared journal e ≡ other → other.id ≡ e.id → used_id_fault journal e ≡ fault_of_id journal other
 used_as journal e other is same =
     ap (λ x. option_map_or (λ stored. Some (repeated (transfer_differences x stored))) (transfer_with_id journal e.id) (if is_failed journal e.id then Some outcome.IdAlreadyFailed else None)) is
     ∙ ap (λ n. option_map_or (λ stored. Some (repeated (transfer_differences other stored))) (transfer_with_id journal n) (if is_failed journal n then Some outcome.IdAlreadyFailed else None)) (sym same)
+
+-- any other event than a post or void is compared as it is
+pub used_plain : (journal : List Entry) (e : Transfer) → is_settling e ≡ false → used_id_fault journal e ≡ fault_of_id journal e
+used_plain journal e moving =
+    used_as journal e e (ap (λ b. if b then option_map_or (λ pending. filled_in pending e) (transfer_with_id journal e.pending_id) e else e) moving) refl
 
 -- where the pending transfer isn't stored, an event is compared as it is
 pub used_missing : (journal : List Entry) (e : Transfer) → is_settling e ≡ true → transfer_with_id journal e.pending_id ≡ None → used_id_fault journal e ≡ fault_of_id journal e

@@ -1,5 +1,6 @@
 -- A pulse, one expiry after another.
-use Rattle.std.proofs.Common.{◌≡◌, ℕ, zero, suc, ◌+◌, ◌-◌, ◌<◌, ◌≤◌, List, [], ◌∷◌, ◌++◌, length, take, drop, Some, None, false, refl, ap, sym, ◌∙◌, subst, arith, append_assoc, append-nil, length-take-le, true≢false}
+use Rattle.std.proofs.Common.{◌≡◌, ℕ, zero, suc, ◌+◌, ◌-◌, ◌<◌, ◌≤◌, List, [], ◌∷◌, ◌++◌, length, take, drop, Some, None, false, refl, ap, sym, ◌∙◌, subst, arith, append_assoc, append-nil, length-append, length-take-le, true≢false}
+use Rattle.std.proofs.lemmas.List.{take_at}
 use Rattle.std.proofs.lemmas.Option.{none-some, same_Some}
 use Rattle.tf_records.specs.declared.transfer.Transfer.{Transfer}
 use Rattle.tf_journal.specs.declared.entry.Entry.{Entry}
@@ -97,3 +98,13 @@ expiring_within moment start journal count p is next = (next_in count (due start
 pub expiring_done : (moment : ℕ) (start journal : List Entry) (count : ℕ) → IsExpiring moment start journal count
     → next_due_of journal moment ≡ None → length (due start moment) ≤ count
 expiring_done moment start journal count is none = nothing_left count (due start moment) (ap first_of (sym is.left) ∙ none)
+
+-- expiries come behind what was there
+pub expiring_longer : (moment : ℕ) (start journal : List Entry) (count : ℕ) → IsExpiring moment start journal count → length start ≤ length journal
+expiring_longer moment start journal count is =
+    let expiries = expiries_of (moment + 1) (take count (due start moment)) in
+    rw (is.stored) (omega (arith, length-append start expiries))
+
+pub expiring_begins : (moment : ℕ) (start journal : List Entry) (count : ℕ) → IsExpiring moment start journal count → take (length start) journal ≡ start
+expiring_begins moment start journal count is =
+    rw (is.stored) (take_at start (expiries_of (moment + 1) (take count (due start moment))) (length start) refl)

@@ -1,12 +1,14 @@
-use Rattle.std.proofs.Common.{◌≡◌, ◌+◌, ◌++◌, ◌-◌, ◌<◌, ◌≤◌, ◌∙◌, ap, append-nil, arith, drop, length, rules, subst, sym, take}
+use Rattle.std.proofs.Common.{◌≡◌, ℕ, ◌+◌, ◌++◌, ◌-◌, ◌<◌, ◌≤◌, ◌∙◌, ap, append-nil, arith, drop, length, refl, rules, subst, sym, take}
 use Rattle.std.proofs.lemmas.List.{length-drop, take_rest}
+use Rattle.std.proofs.lemmas.Result.{IfOk-from_err}
 use Rattle.tf_journal.specs.Lawful.{AreChained}
 use Rattle.tf_events.specs.Batch.{chains_of, chains_step, placed}
 use Rattle.tf_events.specs.Chain.{Step}
+use Rattle.tf_events.specs.Walk.{IsSoundAt}
 use Rattle.tf_events.proofs.Chained.{chained_one}
-use Rattle.tf_events.proofs.Cuts.{chain_length-some, chain_length-within, first_chain_length, first_chain_one}
+use Rattle.tf_events.proofs.Cuts.{chain_length-some, chain_length-within, first_chain_length, first_chain_one, first_within}
 use Rattle.tf_events.proofs.Left.{extends_more, left_more, left_none}
-use Rattle.tf_events.proofs.Stored.{sound_at_later}
+use Rattle.tf_events.proofs.Stored.{extends_itself, sound_at_later}
 use Rattle.tf_events.proofs.batch.run_events.Goals as goal
 
 pub slice_bounds-run_chain-end : goal.slice_bounds-run_chain-end
@@ -107,3 +109,63 @@ returns-clause-noted g c =
     let noted = c.loop-start.failures.items in
     let none = left_none g.E.Event.kind journal c.args.before c.loop-start.start c.args.events.now (omega (arith, c.loop-start-test.false)) in
     sym (ap (λ (s : Step). noted ++ s.failures) none ∙ append-nil noted) ∙ c.loop-start.invariant.noted
+
+pub run_chain-requires-clause-sound : goal.run_chain-requires-clause-sound
+run_chain-requires-clause-sound g c = c.loop-start.invariant.sound
+
+pub returns-in_err-run_chain-clause-stored : goal.returns-in_err-run_chain-clause-stored
+returns-in_err-run_chain-clause-stored g c = IfOk-from_err _ _ c.from_residual.ensures.0
+
+pub returns-in_err-run_chain-clause-noted : goal.returns-in_err-run_chain-clause-noted
+returns-in_err-run_chain-clause-noted g c = IfOk-from_err _ _ c.from_residual.ensures.0
+
+pub returns-in_err-run_chain-clause-sound : goal.returns-in_err-run_chain-clause-sound
+returns-in_err-run_chain-clause-sound g c = IfOk-from_err _ _ c.from_residual.ensures.0
+
+pub returns-in_err-run_chain-clause-chained : goal.returns-in_err-run_chain-clause-chained
+returns-in_err-run_chain-clause-chained g c = IfOk-from_err _ _ c.from_residual.ensures.0
+
+pub returns-in_err-run_chain-clause-rest : goal.returns-in_err-run_chain-clause-rest
+returns-in_err-run_chain-clause-rest g c = c.run_chain.ensures.rest ∙ c.loop-start.invariant.rest
+
+pub returns-clause-sound : goal.returns-clause-sound
+returns-clause-sound g c =
+    sound_at_later (c.args.before + c.loop-start.start) (c.args.before + length c.args.events.now) (g.L.Ledger.journal c.loop-start.ledger)
+    (omega (arith, c.loop-start.invariant.within)) c.loop-start.invariant.sound
+
+pub returns-clause-chained : goal.returns-clause-chained
+returns-clause-chained g c = c.loop-start.invariant.chained
+
+pub returns-clause-goes_on : goal.returns-clause-goes_on
+returns-clause-goes_on g c =
+    let so_far = c.loop-start.invariant in
+    record { extends = so_far.extends; refusal = tt; clock = so_far.clock; kept = so_far.kept }
+
+pub returns-clause-rest : goal.returns-clause-rest
+returns-clause-rest g c = c.loop-start.invariant.rest
+
+pub loop-start-init : goal.loop-start-init
+loop-start-init g c =
+    let kind = g.E.Event.kind in
+    let journal = g.L.Ledger.journal c.args.ledger.now in
+    let step : ℕ → Step = λ n. chains_step kind journal (chains_of kind (placed 0 (n + 1) c.args.events.now)) in
+    let first : c.args.before + 0 ≡ c.args.before = omega arith in
+    record {
+      stored = ap (λ n. (step n).journal) first;
+      noted = ap (λ noted. noted ++ (step (c.args.before + 0)).failures) c.new-failures.ensures.items ∙ ap (λ n. (step n).failures) first;
+      within = omega arith;
+      sound = subst (λ n. IsSoundAt n journal) (sym first) c.requires.sound;
+      chained = c.requires.chained;
+      extends = extends_itself journal;
+      clock = refl;
+      kept = refl;
+      rest = refl;
+    }
+
+pub run_chain-requires-clause-size : goal.run_chain-requires-clause-size
+run_chain-requires-clause-size g c =
+    omega (arith, first_within g.E.Event.kind c.args.events.now c.loop-start.start c.chain_len-len.result c.loop-start-test.true c.chain_len-len.ensures, c.requires.size)
+
+pub run_chain-requires-clause-in_range : goal.run_chain-requires-clause-in_range
+run_chain-requires-clause-in_range g c =
+    omega (arith, first_within g.E.Event.kind c.args.events.now c.loop-start.start c.chain_len-len.result c.loop-start-test.true c.chain_len-len.ensures, c.requires.in_range)

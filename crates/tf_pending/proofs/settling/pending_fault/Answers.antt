@@ -1,4 +1,4 @@
-use Rattle.std.proofs.Common.{◌≡◌, ◌∙◌, sym, ◌++◌, not, refl}
+use Rattle.std.proofs.Common.{◌∙◌, sym, ◌++◌, not, refl}
 use Rattle.std.proofs.lemmas.Bool.{not-false}
 use Rattle.std.specs.Prelude.{◌==◌}
 use Rattle.tf_records.specs.declared.outcome.Outcome.TheVariants as outcome
@@ -31,3 +31,10 @@ returns g c =
     c.closed_fault.ensures
     ∙ sym (fault_later (mismatches pending e) (status_faults journal c.args.timestamp pending ++ closed_faults journal e pending) (sym c.mismatch.ensures ∙ c.in_default.is)
     ∙ fault_later (status_faults journal c.args.timestamp pending) (closed_faults journal e pending) (sym c.status_fault.ensures ∙ c.in_default-status_fault.is))
+
+pub returns-in-Some : goal.returns-in-Some
+returns-in-Some g c =
+    let journal = g.L.Ledger.journal c.args.ledger.now in
+    let pending = c.args.pending.now in
+    let e = c.args.event.now in
+    sym (fault_early (mismatches pending e) (status_faults journal c.args.timestamp pending ++ closed_faults journal e pending) c.in-Some.fault (sym c.mismatch.ensures ∙ c.in-Some.is))

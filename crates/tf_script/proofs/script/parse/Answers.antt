@@ -1,11 +1,11 @@
-use Rattle.std.proofs.Common.{◌≡◌, ◌+◌, ◌-◌, ◌<◌, ◌++◌, false, true≢false, Result, Ok, Err, is_err, OnOk, length, sym, ap, ◌∙◌, arith, length-drop}
+use Rattle.std.proofs.Common.{◌≡◌, ◌+◌, ◌-◌, ◌<◌, ◌++◌, false, true≢false, Result, Ok, Err, is_err, OnOk, length, sym, ap, subst, ◌∙◌, arith, length-drop}
 use Rattle.std.specs.List.{position_or_len}
 use Rattle.std.proofs.lemmas.Bool.Decides.{nat_tests}
 use Rattle.tf_script.specs.Lines.{lines_of}
 use Rattle.tf_script.specs.Statements.{◌<&>◌, statement_of}
 use Rattle.tf_script.specs.Script.{with_line, commands_from, script_of}
 use Rattle.tf_script.specs.CommandViews.{commands_of}
-use Rattle.tf_script.specs.Reader.LineViews.{statement_view}
+use Rattle.tf_script.specs.Reader.LineViews.{CanStand, statement_view}
 use Rattle.tf_script.specs.Reader.Reading.{batch_of, resumed, Adds}
 use Rattle.tf_script.proofs.ScriptLemmas.{is_feed, commands_from-fault, commands_from-line, then-nothing, then-map}
 use Rattle.tf_script.proofs.script.parse.Goals as goal
@@ -54,3 +54,6 @@ loop-rest-preserved g c =
           c.first_line.ensures.line c.first_line.ensures.rest means))
           ∙ c.loop-rest.invariant.read;
     }
+
+pub add-requires : goal.add-requires
+add-requires g c = subst (λ batch. CanStand batch c.in-Ok.statement) c.batch-batch.ensures c.in-Ok.ensures.placed
