@@ -1,14 +1,25 @@
-//! Plain ledgers that are filled by scripts.
+//! Ledgers that are filled by scripts.
 
-ghost use Rattle.std.specs.Prelude.{IfOk};
 ghost use Rattle.tf_journal.specs.Lawful.{IsLawfulAt};
 
 use std::alloc::{AllocError, Allocator, Global};
 use tf_events::{run_accounts, run_transfers};
-use tf_journal::{Ledger, PlainLedger};
+use tf_journal::{Entry, Ledger, PlainLedger};
 use tf_pending::pulse;
 use tf_records::{Refusal, Reply};
-use tf_script::{Command, parse};
+use tf_script::Command;
+
+/// A ledger that shows its entries.
+pub trait Shown {
+    /// The entries, by rising timestamp.
+    fn shown(&self) -> &[Entry];
+}
+
+impl<A: Allocator> Shown for PlainLedger<A> {
+    fn shown(&self) -> &[Entry] {
+        self.entries()
+    }
+}
 
 /// The empty ledger.
 pub fn empty<A: Allocator>(alloc: A) -> PlainLedger<A>
@@ -17,11 +28,11 @@ pub fn empty<A: Allocator>(alloc: A) -> PlainLedger<A>
     PlainLedger::new(alloc)
 }
 
-/// Runs a batch or a pulse, and no other command. A pulse names no failed event.
-pub fn run<L: Ledger, A: Allocator + Copy, B: Allocator>(
+/// Runs a batch or a pulse with memory of this allocator, and no other command. A pulse names no failed event.
+pub fn run<L: Ledger, A: Allocator>(
     alloc: A,
     ledger: &mut L,
-    command: &Command<B>,
+    command: &Command<Global>,
 ) -> Result<Reply<A>, Refusal>
     requires { IsLawfulAt (L.clock ledger.old) (L.journal ledger.old) }
     ensures { IsLawfulAt (L.clock ledger.new) (L.journal ledger.new) }
@@ -37,41 +48,6 @@ pub fn run<L: Ledger, A: Allocator + Copy, B: Allocator>(
     }
 }
 
-/// Runs the batches and pulses of a script, up to the first that is refused.
-pub fn run_all<L: Ledger, A: Allocator + Copy, B: Allocator>(
-    alloc: A,
-    ledger: &mut L,
-    commands: &[Command<B>],
-) -> Result<(), Refusal>
-    requires { IsLawfulAt (L.clock ledger.old) (L.journal ledger.old) }
-    ensures { IsLawfulAt (L.clock ledger.new) (L.journal ledger.new) }
-{
-    for command in commands {
-        run(alloc, ledger, command)?;
-    }
-    Ok(())
-}
-
-/// The ledger that these batches and pulses leave.
-pub fn ledger_after<A: Allocator + Copy, B: Allocator>(
-    alloc: A,
-    commands: &[Command<B>],
-) -> Result<PlainLedger<A>, Refusal>
-    ensures { IfOk result (λ ledger. IsLawfulAt (⟦<PlainLedger<A> as Ledger>⟧.clock ledger) (⟦<PlainLedger<A> as Ledger>⟧.journal ledger)) }
-{
-    let mut ledger = empty(alloc);
-    run_all(alloc, &mut ledger, commands)?;
-    Ok(ledger)
-}
-
-/// The ledger that the batches and pulses of a script leave.
-pub fn ledger_of(alloc: Global, script: &str) -> Result<PlainLedger<Global>, Refusal>
-    ensures { IfOk result (λ ledger. IsLawfulAt (⟦<PlainLedger<Global> as Ledger>⟧.clock ledger) (⟦<PlainLedger<Global> as Ledger>⟧.journal ledger)) }
-{
-    let commands = parse(alloc, script.as_bytes())?;
-    ledger_after(alloc, &commands)
-}
-
 /// The failed events of a batch as scripts print them, a line each.
 pub fn told<A: Allocator>(alloc: Global, reply: &Reply<A>) -> Result<String, AllocError> {
     let mut text = String::new(alloc);
@@ -81,4 +57,19 @@ pub fn told<A: Allocator>(alloc: Global, reply: &Reply<A>) -> Result<String, All
         writeln!(text, "{index} {name}")?;
     }
     Ok(text)
+}
+
+/// Runs the batches and pulses of a script, up to the first that is refused.
+pub fn run_all<L: Ledger>(
+    alloc: Global,
+    ledger: &mut L,
+    commands: &[Command<Global>],
+) -> Result<(), Refusal>
+    requires { IsLawfulAt (L.clock ledger.old) (L.journal ledger.old) }
+    ensures { IsLawfulAt (L.clock ledger.new) (L.journal ledger.new) }
+{
+    for command in commands {
+        run(alloc, ledger, command)?;
+    }
+    Ok(())
 }

@@ -2,8 +2,13 @@
 
 use std::alloc::Global;
 use std::process::Abort;
-use tf_records::{Account, Refusal, Transfer};
-use tf_script::{Command, Query, parse};
+use tf_records::Refusal;
+use tf_script::{Command, parse};
+
+/// It holds, or the test fails and says of which line it doesn't. A message is dear to prove, so it is spelled out once.
+pub fn assert_in(rt: &impl Abort, holds: bool, line: &str) {
+    assert!(rt; holds, "not so: {line}");
+}
 
 /// The first word of a line, and what stands behind the space after it.
 pub fn first_word(line: &str) -> (&str, &str) {
@@ -15,29 +20,23 @@ pub fn number(rt: &impl Abort, word: &str) -> u64 {
     word.parse::<u64>().expect(rt, "a number in a table")
 }
 
-/// The account events of a text with one a line.
-pub fn accounts(alloc: Global, events: &str) -> Result<Vec<Account>, Refusal> {
-    let script = format!(in alloc; "accounts 0\n{events}\nend")?;
-    match parse(alloc, script.as_bytes())?.pop() {
-        Some(Command::Accounts { events, .. }) => Ok(events),
-        _ => Ok(Vec::new(alloc)),
-    }
+/// The batch of one record, or of two with ` -> ` between them. Its kind is `accounts` or `transfers`.
+pub fn batch(alloc: Global, kind: &str, records: &str) -> Result<Option<Command<Global>>, Refusal> {
+    let (first, second) = records.split_once(" -> ").unwrap_or((records, ""));
+    let script = format!(in alloc; "{kind} 0\n+ {first}\n{second}\nend")?;
+    last_command(alloc, script.as_str())
 }
 
-/// The transfer events of a text with one a line.
-pub fn transfers(alloc: Global, events: &str) -> Result<Vec<Transfer>, Refusal> {
-    let script = format!(in alloc; "transfers 0\n{events}\nend")?;
-    match parse(alloc, script.as_bytes())?.pop() {
-        Some(Command::Transfers { events, .. }) => Ok(events),
-        _ => Ok(Vec::new(alloc)),
-    }
+/// The last command of a script.
+pub fn last_command(alloc: Global, script: &str) -> Result<Option<Command<Global>>, Refusal> {
+    let mut commands = parse(alloc, script.as_bytes())?;
+    Ok(commands.pop())
 }
 
-/// The query of a script that has it alone.
-pub fn only_query(alloc: Global, script: &str) -> Result<Option<Query>, Refusal> {
-    let commands = parse(alloc, script.as_bytes())?;
-    match commands.as_slice() {
-        [Command::Query(query)] => Ok(Some(*query)),
-        _ => Ok(None),
+/// What is asked of a record, and the number behind ` at `, which is 0 where there is none.
+pub fn asked_at<'t>(rt: &impl Abort, words: &'t str) -> (&'t str, u64) {
+    match words.split_once(" at ") {
+        Some((asked, word)) => (asked, number(rt, word)),
+        None => (words, 0),
     }
 }

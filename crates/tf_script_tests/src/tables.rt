@@ -39,3 +39,13 @@ pub fn first_word(line: &str) -> (&str, &str) {
 pub fn number(rt: &impl Abort, word: &str) -> u64 {
     word.parse::<u64>().expect(rt, "a number in a table")
 }
+
+/// The place that begins a line of a table, if it has one, and the script behind it.
+pub fn place_and_script<'a>(rt: &impl Abort, line: &'a str) -> (Option<(u64, u64)>, &'a str) {
+    let (first, rest) = first_word(line);
+    if first == "none" {
+        return (None, rest);
+    }
+    let (second, script) = first_word(rest);
+    (Some((number(rt, first), number(rt, second))), script)
+}

@@ -33,8 +33,7 @@ const ACCOUNT: Account = Account {
 #[test]
 fn account_fields_stand_at_their_offsets(rt: HostRuntime) {
     let bytes = counted::<128>(0);
-    assert!(rt; Account::from_bytes(&bytes) == Ok(ACCOUNT));
-    assert!(rt; ACCOUNT.to_bytes() == bytes);
+    assert!(rt; Account::from_bytes(&bytes) == Ok(ACCOUNT) && ACCOUNT.to_bytes() == bytes);
 }
 
 /// The transfer whose bytes count up from 0.
@@ -57,8 +56,7 @@ const TRANSFER: Transfer = Transfer {
 #[test]
 fn transfer_fields_stand_at_their_offsets(rt: HostRuntime) {
     let bytes = counted::<128>(0);
-    assert!(rt; Transfer::from_bytes(&bytes) == Ok(TRANSFER));
-    assert!(rt; TRANSFER.to_bytes() == bytes);
+    assert!(rt; Transfer::from_bytes(&bytes) == Ok(TRANSFER) && TRANSFER.to_bytes() == bytes);
 }
 
 #[test]
@@ -135,18 +133,23 @@ fn a_query_filter_of_ledger_and_limit(rt: HostRuntime) {
     assert!(rt; filter.to_bytes() == bytes);
 }
 
+/// Whether bytes of this length are no record of 128 bytes.
+fn are_no_record(bytes: &[u8]) -> bool {
+    let bad = Some(Refusal::BadRecord {
+        length: bytes.len() as u64,
+    });
+    Account::from_bytes(bytes).err() == bad
+        && Transfer::from_bytes(bytes).err() == bad
+        && AccountFilter::from_bytes(bytes).err() == bad
+        && AccountBalance::from_bytes(bytes).err() == bad
+}
+
 #[test]
 fn other_lengths_are_no_record(rt: HostRuntime) {
     let bytes = [7; 256];
     for length in [0, 1, 63, 64, 65, 127, 129, 256] {
         let some = &bytes[..length];
-        let bad = Refusal::BadRecord {
-            length: length as u64,
-        };
-        assert!(rt; Account::from_bytes(some).err() == Some(bad));
-        assert!(rt; Transfer::from_bytes(some).err() == Some(bad));
-        assert!(rt; AccountFilter::from_bytes(some).err() == Some(bad));
-        assert!(rt; AccountBalance::from_bytes(some).err() == Some(bad));
+        assert!(rt; are_no_record(some));
         assert!(rt; QueryFilter::from_bytes(some).is_ok() == (length == 64));
     }
     let all = &bytes[..128];

@@ -1,5 +1,6 @@
 use super::{WHOLE, only_command};
 use crate::asserts::{assert_at, assert_in};
+use crate::tables::{place_and_script, unescaped};
 use linked_list_allocator::LocalHeap;
 use std::alloc::{Allocator, Global};
 use std::process::Abort;
@@ -238,63 +239,37 @@ fn a_script_may_have_many_commands(rt: HostRuntime) -> Result<(), Fail> {
     Ok(())
 }
 
+/// A query by its fields, and the same by its bytes.
+const QUERIES: &str = "\
+get_account_transfers account_id=1 user_data_128=2 user_data_64=3 user_data_32=4 code=5 timestamp_min=6 timestamp_max=7 limit=8 flags=debits|reversed = get_account_transfers raw 0100000000000000000000000000000002000000000000000000000000000000030000000000000004000000050000000000000000000000000000000000000000000000000000000000000000000000000000000000000000000000000000000000000000000000060000000000000007000000000000000800000005000000
+get_account_balances flags=reversed|debits limit=8 timestamp_max=7 timestamp_min=6 code=5 user_data_32=4 user_data_64=3 user_data_128=2 account_id=1 = get_account_balances raw 0100000000000000000000000000000002000000000000000000000000000000030000000000000004000000050000000000000000000000000000000000000000000000000000000000000000000000000000000000000000000000000000000000000000000000060000000000000007000000000000000800000005000000
+query_accounts user_data_128=2 user_data_64=3 user_data_32=4 ledger=5 code=6 timestamp_min=7 timestamp_max=8 limit=max flags=reversed = query_accounts raw 0200000000000000000000000000000003000000000000000400000005000000060000000000000007000000000000000800000000000000ffffffff01000000
+query_transfers flags=1 limit=4294967295 timestamp_max=8 timestamp_min=7 code=6 ledger=5 user_data_32=4 user_data_64=3 user_data_128=2 = query_transfers raw 0200000000000000000000000000000003000000000000000400000005000000060000000000000007000000000000000800000000000000ffffffff01000000
+get_account_transfers = get_account_transfers raw 0000000000000000000000000000000000000000000000000000000000000000000000000000000000000000000000000000000000000000000000000000000000000000000000000000000000000000000000000000000000000000000000000000000000000000000000000000000000000000000000000000000000000000
+get_account_balances = get_account_balances raw 0000000000000000000000000000000000000000000000000000000000000000000000000000000000000000000000000000000000000000000000000000000000000000000000000000000000000000000000000000000000000000000000000000000000000000000000000000000000000000000000000000000000000000
+query_accounts = query_accounts raw 00000000000000000000000000000000000000000000000000000000000000000000000000000000000000000000000000000000000000000000000000000000
+query_transfers = query_transfers raw 00000000000000000000000000000000000000000000000000000000000000000000000000000000000000000000000000000000000000000000000000000000";
+
+/// Whether the commands of two scripts are the same query.
+fn are_same(one: &Option<Command<Global>>, other: &Option<Command<Global>>) -> bool {
+    match (one, other) {
+        (Some(Command::Query(one)), Some(Command::Query(other))) => one == other,
+        _ => false,
+    }
+}
+
+/// Whether both queries of a line are the same.
+fn reads_alike(alloc: Global, line: &str) -> Result<bool, Refusal> {
+    let (fields, bytes) = line.split_once(" = ").unwrap_or((line, ""));
+    let by_fields = only_command(alloc, fields.as_bytes())?;
+    let by_bytes = only_command(alloc, bytes.as_bytes())?;
+    Ok(are_same(&by_fields, &by_bytes))
+}
+
 #[test]
 fn each_query_has_its_fields(rt: HostRuntime) -> Result<(), Fail> {
-    let of_account = AccountFilter {
-        account_id: 1,
-        user_data_128: 2,
-        user_data_64: 3,
-        user_data_32: 4,
-        code: 5,
-        timestamp_min: 6,
-        timestamp_max: 7,
-        limit: 8,
-        flags: 5,
-        ..ACCOUNT_FILTER
-    };
-    let of_all = QueryFilter {
-        user_data_128: 2,
-        user_data_64: 3,
-        user_data_32: 4,
-        ledger: 5,
-        code: 6,
-        timestamp_min: 7,
-        timestamp_max: 8,
-        limit: u32::MAX,
-        flags: 1,
-        ..QUERY_FILTER
-    };
-    for (script, query) in [
-        (
-            "get_account_transfers account_id=1 user_data_128=2 user_data_64=3 user_data_32=4 code=5 timestamp_min=6 timestamp_max=7 limit=8 flags=debits|reversed",
-            Query::AccountTransfers(of_account),
-        ),
-        (
-            "get_account_balances flags=reversed|debits limit=8 timestamp_max=7 timestamp_min=6 code=5 user_data_32=4 user_data_64=3 user_data_128=2 account_id=1",
-            Query::AccountBalances(of_account),
-        ),
-        (
-            "query_accounts user_data_128=2 user_data_64=3 user_data_32=4 ledger=5 code=6 timestamp_min=7 timestamp_max=8 limit=max flags=reversed",
-            Query::Accounts(of_all),
-        ),
-        (
-            "query_transfers flags=1 limit=4294967295 timestamp_max=8 timestamp_min=7 code=6 ledger=5 user_data_32=4 user_data_64=3 user_data_128=2",
-            Query::Transfers(of_all),
-        ),
-        (
-            "get_account_transfers",
-            Query::AccountTransfers(ACCOUNT_FILTER),
-        ),
-        (
-            "get_account_balances",
-            Query::AccountBalances(ACCOUNT_FILTER),
-        ),
-        ("query_accounts", Query::Accounts(QUERY_FILTER)),
-        ("query_transfers", Query::Transfers(QUERY_FILTER)),
-    ] {
-        let found = only_command(rt.alloc(), script.as_bytes())?;
-        let matched = matches!(&found, Some(Command::Query(found)) if *found == query);
-        assert_in(&rt, matched, script);
+    for line in QUERIES.lines() {
+        assert_in(&rt, reads_alike(rt.alloc(), line)?, line);
     }
     Ok(())
 }
@@ -308,33 +283,45 @@ fn refused_memory_changes_no_answer(rt: HostRuntime) -> Result<(), Fail> {
     Ok(())
 }
 
+/// Scripts as `unescaped` reads them. Without a fault they want memory.
+const WITHOUT_MEMORY: &str = r"none publish
+none accounts 1\n+\nend
+none lookup_accounts 1 2 3
+3 1 publish\npublish\npublished
+4 1 accounts 1\n+\n+
+1 21 lookup_accounts 1 2 x
+4 1 publish\naccounts 1\nend\nend";
+
+/// Whether a script has its fault where its line says, or is refused for want of memory, which this allocator has none of.
+fn is_refused<A: Allocator + Clone>(
+    rt: &(impl Abort + AllocGlobal),
+    alloc: A,
+    line: &str,
+) -> Result<bool, Refusal> {
+    let (place, script) = place_and_script(rt, line);
+    let script = unescaped(rt.alloc(), script)?;
+    let refusal = parse(alloc, &script).err();
+    Ok(match place {
+        Some((line, column)) => refusal == Some(Refusal::BadLine { line, column }),
+        None => refusal == Some(Refusal::NoMemory),
+    })
+}
+
+fn assert_refused<A: Allocator + Copy>(
+    rt: &(impl Abort + AllocGlobal),
+    alloc: A,
+) -> Result<(), Refusal> {
+    for line in WITHOUT_MEMORY.lines() {
+        assert_in(rt, is_refused(rt, alloc, line)?, line);
+    }
+    Ok(())
+}
+
 /// A heap with no room for a command.
 #[test]
 fn a_fault_comes_before_want_of_memory(rt: HostRuntime) -> Result<(), Fail> {
     let heap = LocalHeap::new(rt.alloc(), 64)?;
-    for (script, refusal) in [
-        ("publish", Refusal::NoMemory),
-        ("accounts 1\n+\nend", Refusal::NoMemory),
-        ("lookup_accounts 1 2 3", Refusal::NoMemory),
-        (
-            "publish\npublish\npublished",
-            Refusal::BadLine { line: 3, column: 1 },
-        ),
-        ("accounts 1\n+\n+", Refusal::BadLine { line: 4, column: 1 }),
-        (
-            "lookup_accounts 1 2 x",
-            Refusal::BadLine {
-                line: 1,
-                column: 21,
-            },
-        ),
-        (
-            "publish\naccounts 1\nend\nend",
-            Refusal::BadLine { line: 4, column: 1 },
-        ),
-    ] {
-        let found = parse(&heap, script.as_bytes()).err();
-        assert_in(&rt, found == Some(refusal), script);
-    }
-    Ok(())
+    let refused = assert_refused(&rt, &heap);
+    drop(heap);
+    Ok(refused?)
 }

@@ -1,6 +1,6 @@
 use super::{WHOLE, fault_of};
 use crate::asserts::{assert_at, assert_in};
-use crate::tables::{first_word, number, unescaped};
+use crate::tables::{first_word, number, place_and_script, unescaped};
 use std::alloc::{AllocError, Global};
 use std::process::Abort;
 use std::test::Fail;
@@ -114,16 +114,6 @@ none get_account_transfers flags=reversed|debits|credits timestamp_min=max times
 none pulse max max\n  pulse 00 4294967295  \npublish\n compact\s
 none lookup_accounts\nlookup_transfers 0 max 0 340282366920938463463374607431768211455";
 
-/// The place that begins a line of a table, if it has one, and the script behind it.
-fn place_and_script<'a>(rt: &impl Abort, line: &'a str) -> (Option<(u64, u64)>, &'a str) {
-    let (first, rest) = first_word(line);
-    if first == "none" {
-        return (None, rest);
-    }
-    let (second, script) = first_word(rest);
-    (Some((number(rt, first), number(rt, second))), script)
-}
-
 /// Each script of a table has its fault where its line says. Lines with `#` say something of the next ones.
 fn assert_places(rt: &(impl Abort + AllocGlobal), table: &str) -> Result<(), Fail> {
     for line in table.lines() {
@@ -139,16 +129,8 @@ fn assert_places(rt: &(impl Abort + AllocGlobal), table: &str) -> Result<(), Fai
 
 #[test]
 fn faults_have_their_place(rt: HostRuntime) -> Result<(), Fail> {
-    assert_places(&rt, FAULTS)
-}
-
-#[test]
-fn words_that_assign_nothing_are_faults(rt: HostRuntime) -> Result<(), Fail> {
-    assert_places(&rt, WORDS)
-}
-
-#[test]
-fn scripts_without_fault_are_read(rt: HostRuntime) -> Result<(), Fail> {
+    assert_places(&rt, FAULTS)?;
+    assert_places(&rt, WORDS)?;
     assert_places(&rt, READ)
 }
 

@@ -1,13 +1,14 @@
 //! Which filters are valid, and what they match, at the edges of each field.
 
-use crate::tables::{first_word, only_query};
-use std::test::Fail;
+use crate::tables::{assert_in, first_word, last_command};
+use std::alloc::Global;
+use std::process::Abort;
 use tf_journal::{
     is_valid_account_filter, is_valid_query_filter, matches_account, matches_account_filter,
     matches_transfer,
 };
-use tf_records::{Account, Transfer};
-use tf_script::Query;
+use tf_records::{Account, Refusal, Transfer};
+use tf_script::{Command, Query};
 
 /// A transfer from account 1 to account 2.
 const SALE: Transfer = Transfer {
@@ -178,22 +179,36 @@ fn is_match(query: &Query) -> bool {
     }
 }
 
-#[test]
-fn filters_are_valid_by_their_fields(rt: HostRuntime) -> Result<(), Fail> {
-    for line in VALID.lines() {
-        let (word, filter) = first_word(line);
-        let found = only_query(rt.alloc(), filter)?.map(|query| is_valid(&query));
-        assert_eq!(rt; found, Some(word == "valid"), "in {line}");
+/// Whether what a word says of a filter is so.
+fn is_so(word: &str, query: &Query) -> bool {
+    match word {
+        "valid" => is_valid(query),
+        "invalid" => !is_valid(query),
+        "yes" => is_match(query),
+        _ => !is_match(query),
     }
-    Ok(())
+}
+
+/// Whether what the first word of a line says of the filter behind it is so.
+fn is_line_so(alloc: Global, line: &str) -> Result<bool, Refusal> {
+    let (word, filter) = first_word(line);
+    let command = last_command(alloc, filter)?;
+    Ok(match &command {
+        Some(Command::Query(query)) => is_so(word, query),
+        _ => false,
+    })
+}
+
+/// What each line of a table says is so.
+fn assert_table(rt: &(impl Abort + AllocGlobal), table: &str) {
+    for line in table.lines() {
+        let holds = matches!(is_line_so(rt.alloc(), line), Ok(true));
+        assert_in(rt, holds, line);
+    }
 }
 
 #[test]
-fn records_match_by_bounds_side_and_fields(rt: HostRuntime) -> Result<(), Fail> {
-    for line in MATCHES.lines() {
-        let (word, filter) = first_word(line);
-        let found = only_query(rt.alloc(), filter)?.map(|query| is_match(&query));
-        assert_eq!(rt; found, Some(word == "yes"), "in {line}");
-    }
-    Ok(())
+fn filters_are_valid_and_match_by_their_fields(rt: HostRuntime) {
+    assert_table(&rt, VALID);
+    assert_table(&rt, MATCHES);
 }
