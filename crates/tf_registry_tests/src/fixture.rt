@@ -1,138 +1,120 @@
-//! Rows of small tables. Contracts tell of a row how much it weighs and how many tables it has, and no more.
-ghost use Rattle.std.specs.Prelude.{◌≡◌, ◌+◌, ◌<◌, length, OnOk, IfOk};
+//! Small tables, their pushes and merges. All is generic in the allocator, so that none of it spells out a heap's layout, and what
+//! can't be for want of memory or room is no error but `None` or `false`.
+ghost use Rattle.std.specs.Prelude.{◌≡◌, Ok, Some, IfOk, IfSome};
 ghost use Rattle.std.specs.Arc.{arc_value};
-ghost use Rattle.tf_registry.specs.Row.{weight};
 ghost use Rattle.tf_registry.specs.Run.{IsMergeOf, Stands};
 
-use std::alloc::Allocator;
+use std::alloc::{AllocError, Allocator};
 use std::sync::Wait;
-use std::test::Fail;
-use tf_btree::Tree;
-use tf_mutable::{MutableTable, seal};
-use tf_registry::{Body, Held, Merged, Naming, Pushes, Registry, RowUninstalled, TableRef, Tables};
-use tf_table::Key;
-
-/// What became of an install.
-#[derive(Clone, Copy, Debug, PartialEq, Eq)]
-pub enum Outcome {
-    Installed,
-    Stale,
-    RegistryFull,
-    NoMemory,
-}
+use tf_mutable::{Log, MutableTable};
+use tf_records::Refusal;
+use tf_registry::{Body, Held, Merged, Naming, Registry, TableRef, Tables};
+use tf_table::{Key, Sealed};
 
 /// A key with this value, of a record with timestamp 1.
-pub fn key(value: u64) -> Key {
+fn key(value: u64) -> Key {
     Key {
-        value: value as u128,
+        value: u128::from(value),
         timestamp: 1,
-    }
-}
-
-/// A table of level 0 whose keys and values are so many numbers, from one on.
-pub fn table<A: Allocator + Clone>(
-    alloc: &A,
-    first: u64,
-    rows: u64,
-    oldest: bool,
-) -> Result<Held<u64, A>, Fail>
-    ensures level { IfOk result (λ held. (arc_value held).level ≡ 0) }
-    ensures oldest { IfOk result (λ held. (arc_value held).oldest ≡ oldest) }
-{
-    let mut tree = Tree::new_in(alloc.clone()?);
-    for row in 0..rows {
-        let value = first.wrapping_add(row);
-        let _ = MutableTable::put(&mut tree, key(value), Some(value))?;
-    }
-    let sealed = seal(alloc.clone()?, &tree)?;
-    Ok(Body::new(sealed, 0, oldest).hold(alloc.clone()?)?)
-}
-
-/// Pushes a table.
-pub fn pushed<A: Allocator + Clone, N: Naming, R: Wait>(
-    rt: &R,
-    registry: &Registry<u64, A>,
-    table: Held<u64, A>,
-) -> Result<TableRef<u64, A, N>, Fail>
-    requires here { registry.now ≡ N.shelf 0 }
-    ensures { IfOk result (λ reference. reference.table ≡ arc_value table) }
-{
-    match registry.push(rt, table) {
-        Ok(reference) => Ok(reference),
-        Err(_) => Err(Fail::new("no memory for a push")),
-    }
-}
-
-/// Puts a table with so many rows in front of a row.
-pub fn grow<A: Allocator + Clone, N: Naming, R: Wait>(
-    rt: &R,
-    alloc: &A,
-    registry: &Registry<u64, A>,
-    row: &mut Tables<u64, A, N>,
-    first: u64,
-    rows: u64,
-) -> Result<(), Fail>
-    requires here { registry.now ≡ N.shelf 0 }
-    requires room { length row.old < 64 }
-    requires light { weight row.old < 2000 }
-    ensures weight { OnOk result (weight row.new ≡ weight row.old + 1) }
-    ensures length { OnOk result (length row.new ≡ length row.old + 1) }
-{
-    let sealed = table(alloc, first, rows, row.is_empty())?;
-    row.add(pushed(rt, registry, sealed)?);
-    Ok(())
-}
-
-/// A row of so many tables of one row each, whose keys and values are the numbers below.
-pub fn row_of<A: Allocator + Clone, N: Naming, R: Wait>(
-    rt: &R,
-    alloc: &A,
-    registry: &Registry<u64, A>,
-    tables: u64,
-) -> Result<Tables<u64, A, N>, Fail>
-    requires here { registry.now ≡ N.shelf 0 }
-    requires few { tables < 65 }
-    ensures weight { IfOk result (λ row. weight row ≡ tables) }
-    ensures length { IfOk result (λ row. length row ≡ tables) }
-{
-    let mut row = Tables::new(alloc.clone()?)?;
-    for value in 0..tables {
-        grow(rt, alloc, registry, &mut row, value, 1)?;
-    }
-    Ok(row)
-}
-
-/// The run that is to be merged next, merged.
-pub fn merged<A: Allocator + Clone, N: Naming>(
-    alloc: &A,
-    row: &Tables<u64, A, N>,
-) -> Result<Merged<u64, A, N>, Fail>
-    ensures merges { IfOk result (λ out. IsMergeOf out.run out.table) }
-    ensures stands { IfOk result (λ out. Stands row.now out.run) }
-{
-    let job = row.pick()?.ok_or("no job")?;
-    Ok(job.merge(alloc.clone()?)?)
-}
-
-/// Installs a merged table, and tells what became of it.
-pub fn install<A: Allocator + Clone, N: Naming>(
-    rt: &impl Wait,
-    registry: &Registry<u64, A>,
-    row: &mut Tables<u64, A, N>,
-    pushes: &mut Pushes,
-    out: Merged<u64, A, N>,
-) -> Outcome
-    requires here { registry.now ≡ N.shelf 0 }
-{
-    match row.install(rt, registry, pushes, out) {
-        Ok(()) => Outcome::Installed,
-        Err(RowUninstalled::Stale) => Outcome::Stale,
-        Err(RowUninstalled::RegistryFull) => Outcome::RegistryFull,
-        Err(RowUninstalled::NoMemory(_)) => Outcome::NoMemory,
     }
 }
 
 /// The value of the key of a number.
 pub fn value_at<A: Allocator, N: Naming>(row: &Tables<u64, A, N>, value: u64) -> Option<u64> {
     row.find(&key(value)).copied()
+}
+
+/// Rows whose keys and values are so many numbers, from one on.
+fn sealed<A: Allocator + Copy>(alloc: A, first: u64, rows: u64) -> Result<Sealed<u64, A>, Refusal> {
+    let mut log: Log<u64, A> = Log::new_in(alloc);
+    for row in 0..rows {
+        let value = first.wrapping_add(row);
+        let key = key(value);
+        if log.find(&key).is_none() && log.put(key, Some(value)).is_err() {
+            return Err(Refusal::NoMemory);
+        }
+    }
+    log.seal(alloc)
+}
+
+/// A table of level 0 whose keys and values are so many numbers, from one on.
+pub fn table<A: Allocator + Copy>(
+    alloc: A,
+    first: u64,
+    rows: u64,
+    oldest: bool,
+) -> Result<Held<u64, A>, Refusal>
+    ensures level { IfOk result (λ held. (arc_value held).level ≡ 0) }
+    ensures oldest { IfOk result (λ held. (arc_value held).oldest ≡ oldest) }
+{
+    match sealed(alloc, first, rows) {
+        Ok(sealed) => Body::new(sealed, 0, oldest).hold(alloc),
+        Err(refusal) => Err(refusal),
+    }
+}
+
+/// Pushes such a table.
+pub fn pushed<A: Allocator + Copy, N: Naming, R: Wait>(
+    rt: &R,
+    alloc: A,
+    registry: &Registry<u64, A>,
+    first: u64,
+    rows: u64,
+    oldest: bool,
+) -> Option<TableRef<u64, A, N>>
+    requires here { registry.now ≡ N.shelf 0 }
+    ensures level { IfSome result (λ reference. reference.table.level ≡ 0) }
+    ensures oldest { IfSome result (λ reference. reference.table.oldest ≡ oldest) }
+{
+    match table(alloc, first, rows, oldest) {
+        Ok(table) => registry.push(rt, table).ok(),
+        Err(_) => None,
+    }
+}
+
+/// Puts a table with so many rows in front of a row. It tells whether there was room and memory for it.
+pub fn grow<A: Allocator + Copy, N: Naming, R: Wait>(
+    rt: &R,
+    alloc: A,
+    registry: &Registry<u64, A>,
+    row: &mut Tables<u64, A, N>,
+    first: u64,
+    rows: u64,
+) -> bool
+    requires here { registry.now ≡ N.shelf 0 }
+{
+    if row.len() >= 64 || row.weight() >= 2000 {
+        return false;
+    }
+    match pushed(rt, alloc, registry, first, rows, row.is_empty()) {
+        Some(reference) => {
+            row.add(reference);
+            true
+        }
+        None => false,
+    }
+}
+
+/// What was picked.
+fn found<J: Drop>(picked: Result<Option<J>, AllocError>) -> Option<J>
+    ensures { IfSome result (λ job. picked ≡ Ok (Some job)) }
+{
+    match picked {
+        Ok(found) => found,
+        Err(_) => None,
+    }
+}
+
+/// The run that is to be merged next, merged.
+pub fn merged<A: Allocator + Copy, N: Naming>(
+    alloc: A,
+    row: &Tables<u64, A, N>,
+) -> Option<Merged<u64, A, N>>
+    ensures merges { IfSome result (λ out. IsMergeOf out.run out.table) }
+    ensures stands { IfSome result (λ out. Stands row.now out.run) }
+{
+    match found(row.pick()) {
+        Some(job) => job.merge(alloc).ok(),
+        None => None,
+    }
 }

@@ -5,8 +5,8 @@
 #[cfg(test)]
 mod fixture;
 #[cfg(test)]
-mod installs;
-#[cfg(test)]
-mod many;
-#[cfg(test)]
 mod memory;
+#[cfg(test)]
+mod rows;
+#[cfg(test)]
+mod trials;
