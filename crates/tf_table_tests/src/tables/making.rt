@@ -1,11 +1,11 @@
 //! Tables of rows that are given.
 
 use super::words::Row;
-use std::alloc::{Allocator, Global};
+use std::alloc::Allocator;
 use tf_btree::Tree;
-use tf_mutable::{Log, MutableTable, seal};
+use tf_mutable::MutableTable;
 use tf_records::Refusal;
-use tf_table::{Key, Sealed, merge};
+use tf_table::{Key, Sealed};
 
 /// A tree of the rows of these tests.
 pub(super) type Rows<A> = Tree<Key, Option<u64>, A>;
@@ -27,64 +27,27 @@ pub(super) fn put<A: Allocator + Clone, M: MutableTable<u64, A>>(
 pub(super) fn put_all<A: Allocator + Clone, M: MutableTable<u64, A>>(
     table: &mut M,
     rows: &[Row],
-) -> Result<(), Refusal> {
+) -> Result<bool, Refusal> {
     for row in rows {
-        if table.find(&row.0).is_none() {
-            let _ = table.put(row.0, row.1)?;
+        if !put(table, row.0, row.1)? {
+            return Ok(false);
         }
     }
-    Ok(())
+    Ok(true)
 }
 
-/// Inserts these rows into a tree.
-pub(super) fn insert_all<A: Allocator + Clone>(
-    tree: &mut Rows<A>,
-    rows: &[Row],
-) -> Result<(), Refusal> {
-    for row in rows {
-        if tree.insert(row.0, row.1).is_err() {
-            return Err(Refusal::NoMemory);
-        }
-    }
-    Ok(())
-}
-
-/// A table that is sealed from a tree of these rows.
-pub(super) fn sealed_tree<A: Allocator + Clone + Copy>(
+/// A table that is sealed from a mutable one of these rows.
+pub(super) fn sealed<A: Allocator + Clone + Copy, M: MutableTable<u64, A>>(
     alloc: A,
     rows: &[Row],
 ) -> Result<Sealed<u64, A>, Refusal> {
-    let mut tree = Tree::new_in(alloc);
-    let sealed = match insert_all(&mut tree, rows) {
-        Ok(()) => seal(alloc, &tree),
+    let mut table = M::new_in(alloc);
+    let sealed = match put_all(&mut table, rows) {
+        Ok(_) => table.seal(alloc),
         Err(refusal) => Err(refusal),
     };
-    drop(tree);
+    drop(table);
     sealed
-}
-
-/// A table that is sealed from a log of these rows.
-pub(super) fn sealed_log(alloc: Global, rows: &[Row]) -> Result<Sealed<u64, Global>, Refusal> {
-    let mut log: Log<u64, Global> = Log::new_in(alloc);
-    let sealed = match put_all(&mut log, rows) {
-        Ok(()) => log.seal(alloc),
-        Err(refusal) => Err(refusal),
-    };
-    drop(log);
-    sealed
-}
-
-/// A merge of tables, newest first.
-pub(super) fn merge_all(
-    alloc: Global,
-    tables: &[Sealed<u64, Global>],
-    bottom: bool,
-) -> Result<Sealed<u64, Global>, Refusal> {
-    let mut lent = Vec::new(alloc);
-    for table in tables {
-        lent.push(table)?;
-    }
-    merge(alloc, &lent, bottom)
 }
 
 /// Whether the table has these rows and no other.
@@ -96,4 +59,19 @@ pub(super) fn has_rows<A: Allocator>(table: &Sealed<u64, A>, rows: &[Row]) -> bo
         }
     }
     table.len() == rows.len() && walk.next().is_none()
+}
+
+/// Whether a sealed table has the rows of a mutable one, by rising key.
+pub(super) fn is_copy<A: Allocator + Clone, M: MutableTable<u64, A>>(
+    sealed: &Sealed<u64, A>,
+    table: &M,
+) -> bool {
+    let mut last = None;
+    for (key, entry) in sealed.seek(&Key::LEAST) {
+        if last >= Some(*key) || table.find(key) != Some(entry) {
+            return false;
+        }
+        last = Some(*key);
+    }
+    sealed.len() == table.len()
 }

@@ -7,26 +7,10 @@ use tf_table::Key;
 /// A row that is owned: a key with its value, or None for a tombstone.
 pub(super) type Row = (Key, Option<u64>);
 
-/// An entry that is lent, if there is one.
-pub(super) fn copied(entry: Option<Option<&u64>>) -> Option<Option<u64>> {
-    match entry {
-        Some(entry) => Some(entry.copied()),
-        None => None,
-    }
-}
-
 /// A row that is lent, if there is one.
 pub(super) fn row_of(row: Option<(&Key, Option<&u64>)>) -> Option<Row> {
     match row {
         Some((key, entry)) => Some((*key, entry.copied())),
-        None => None,
-    }
-}
-
-/// The entry of a row that is lent, if there is a row.
-pub(super) fn entry_of(row: Option<(&Key, Option<&u64>)>) -> Option<Option<u64>> {
-    match row {
-        Some((_, entry)) => Some(entry.copied()),
         None => None,
     }
 }
@@ -46,23 +30,23 @@ pub(super) fn key_in(rt: &impl Abort, word: &str) -> Key {
     let (value, timestamp) = word.split_once('@').unwrap_or((word, "1"));
     Key {
         value: value.parse::<u128>().expect(rt, "a value in a line"),
-        timestamp: timestamp.parse::<u64>().expect(rt, "a timestamp in a line"),
+        timestamp: number(rt, timestamp),
     }
 }
 
 /// The entry of a word: a value, or `gone` for a tombstone.
-pub(super) fn entry_named(rt: &impl Abort, word: &str) -> Option<u64> {
+pub(super) fn entry_in(rt: &impl Abort, word: &str) -> Option<u64> {
     if word == "gone" {
         None
     } else {
-        Some(word.parse::<u64>().expect(rt, "an entry in a line"))
+        Some(number(rt, word))
     }
 }
 
 /// The row of a word: `KEY=ENTRY`.
 pub(super) fn row_in(rt: &impl Abort, word: &str) -> Row {
     let (key, entry) = word.split_once('=').unwrap_or((word, ""));
-    (key_in(rt, key), entry_named(rt, entry))
+    (key_in(rt, key), entry_in(rt, entry))
 }
 
 /// The rows of a line.
