@@ -25,7 +25,7 @@ fn queries(
     Ok(queries)
 }
 
-/// Runs a random journal, takes a version, and gives 4,096 random queries of it. It is stale where a forest answers otherwise
+/// Runs a random journal, takes a version, and gives 5,000 random queries of it. It is stale where a forest answers otherwise
 /// than the plain ledger.
 pub fn take_for_many<F: Tried>(
     alloc: Global,
@@ -34,7 +34,7 @@ pub fn take_for_many<F: Tried>(
 ) -> Result<Vec<Query, Global>, Refusal> {
     let commands = commands(alloc, 4096, 60)?;
     if run_published(alloc, plain, forest, commands.as_slice(), 0)? && act(forest, Act::Take)? {
-        queries(alloc, plain.ledger(), 4096)
+        queries(alloc, plain.ledger(), 5000)
     } else {
         Err(Refusal::Stale)
     }

@@ -64,7 +64,7 @@ where
     let answers = at_once(rt, alloc, &taken.version, queries)?;
     let none = at_once(rt, alloc, &taken.version, &[])?;
     Ok(
-        queries.len() == 4096
+        queries.len() == 5000
             && are_answered(alloc, taken, queries, answers)
             && are_answered(alloc, taken, &[], none),
     )
