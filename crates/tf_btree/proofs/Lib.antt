@@ -14,3 +14,11 @@ pub mod Count
 pub mod Leaves
 pub mod RunLemmas
 pub mod Within
+pub mod Roots
+pub mod Splits
+pub mod Mended
+pub mod Moved
+pub mod Grown
+pub mod Adopted
+pub mod Room
+pub mod Steps

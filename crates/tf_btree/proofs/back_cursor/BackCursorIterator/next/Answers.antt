@@ -3,6 +3,15 @@ use Rattle.tf_btree.proofs.Within.{back_step, back_refill}
 use Rattle.tf_btree.proofs.back_cursor.BackCursorIterator.next.Goals as goal
 use Rattle.tf_btree.proofs.back_cursor.BackCursorIterator.next.Goals.{then-self-eq0+in_ok-self-inside, else-self-eq0}
 
+pub run_before-requires-clause-rising : goal.run_before-requires-clause-rising
+run_before-requires-clause-rising g c = c.self.invariant.rising
+
+pub run_before-requires-clause-filled : goal.run_before-requires-clause-filled
+run_before-requires-clause-filled g c = c.self.invariant.filled
+
+pub run_before-requires-clause-more : goal.run_before-requires-clause-more
+run_before-requires-clause-more g c = c.self.invariant.more
+
 pub returns-clause-steps : goal.returns-clause-steps
 returns-clause-steps g c =
     let own = c.if-self-eq0.self-inside in

@@ -1,9 +1,64 @@
 use Rattle.tf_btree.proofs.Words.{capacity, rules, ◌≡◌, ◌≤◌, None, OnErr, IfOk, length, sym, ◌∙◌, ap, subst, arith, length-set, with_value, Fill, rows, fill_of, value_at, rows_behind}
-use Rattle.tf_btree.proofs.Entries.{child_at}
+use Rattle.tf_btree.proofs.Entries.{child_at, same_kind}
 use Rattle.tf_btree.proofs.Placed.{value_below}
 use Rattle.tf_btree.proofs.Edited.{joined-set-insert, with_row_child}
-use Rattle.tf_btree.proofs.Children.{on_ok, on_err, child_put, child_same, room_set, beside_level, parted_as, child_filled, edited_filled}
+use Rattle.tf_btree.proofs.Children.{if_some, on_ok, on_err, child_put, child_same, room_set, beside_level, parted_as, child_filled, edited_filled}
+use Rattle.tf_btree.proofs.Grown.{set_within, set_fits}
 use Rattle.tf_btree.proofs.node.Node.+insert.Goals as goal
+
+pub insert_into_leaf-requires-clause-leaf : goal.insert_into_leaf-requires-clause-leaf
+insert_into_leaf-requires-clause-leaf g t c = sym c.is_branch.ensures ∙ c.if-not-is_branch.true
+
+pub insert_into_leaf-requires-clause-rising : goal.insert_into_leaf-requires-clause-rising
+insert_into_leaf-requires-clause-rising g t c = c.requires.rising
+
+pub insert_into_leaf-requires-clause-some : goal.insert_into_leaf-requires-clause-some
+insert_into_leaf-requires-clause-some g t c = c.requires.some
+
+pub returns-then-not-is_branch-clause-rows : goal.returns-then-not-is_branch-clause-rows
+returns-then-not-is_branch-clause-rows g t c = c.insert_into_leaf.ensures.rows
+
+pub returns-then-not-is_branch-clause-kept : goal.returns-then-not-is_branch-clause-kept
+returns-then-not-is_branch-clause-kept g t c = c.insert_into_leaf.ensures.kept
+
+pub returns-then-not-is_branch-clause-may : goal.returns-then-not-is_branch-clause-may
+returns-then-not-is_branch-clause-may g t c = c.insert_into_leaf.ensures.may
+
+pub returns-then-not-is_branch-clause-parted : goal.returns-then-not-is_branch-clause-parted
+returns-then-not-is_branch-clause-parted g t c = c.insert_into_leaf.ensures.parted
+
+pub returns-then-not-is_branch-clause-filled : goal.returns-then-not-is_branch-clause-filled
+returns-then-not-is_branch-clause-filled g t c = c.insert_into_leaf.ensures.filled
+
+pub find_child-at-requires-clause-branch : goal.find_child-at-requires-clause-branch
+find_child-at-requires-clause-branch g t c = sym c.is_branch.ensures ∙ c.if-not-is_branch.false
+
+pub find_child-at-requires-clause-rising : goal.find_child-at-requires-clause-rising
+find_child-at-requires-clause-rising g t c = c.requires.rising
+
+pub find_child-at-requires-clause-some : goal.find_child-at-requires-clause-some
+find_child-at-requires-clause-some g t c = c.requires.some
+
+pub room_for_split-spare-requires-clause-branch : goal.room_for_split-spare-requires-clause-branch
+room_for_split-spare-requires-clause-branch g t c = sym c.is_branch.ensures ∙ c.if-not-is_branch.false
+
+pub room_for_split-spare-requires-clause-in_range : goal.room_for_split-spare-requires-clause-in_range
+room_for_split-spare-requires-clause-in_range g t c = c.find_child-at.ensures.in_range
+
+pub settle-requires-clause-branch : goal.settle-requires-clause-branch
+settle-requires-clause-branch g t c = same_kind c.self.view_is ∙ sym c.is_branch.ensures ∙ c.if-not-is_branch.false
+
+pub settle-requires-clause-in_range : goal.settle-requires-clause-in_range
+settle-requires-clause-in_range g t c = set_within c.self.inside.is_branch c.self.inside.keys.items c.self.inside.values.items c.self.inside.children.items c.args.self.now c.find_child-at.result c.first.result (with_value c.index_mut.result.now c.insert-done.new.self) (sym c.is_branch.ensures ∙ c.if-not-is_branch.false) c.self.invariant.0 c.self.view_is c.find_child-at.ensures.in_range
+
+pub settle-requires-clause-fits : goal.settle-requires-clause-fits
+settle-requires-clause-fits g t c = set_fits c.self.inside.is_branch c.self.inside.keys.items c.self.inside.values.items c.self.inside.children.items c.args.self.now c.find_child-at.result c.first.result (with_value c.index_mut.result.now c.insert-done.new.self) (sym c.is_branch.ensures ∙ c.if-not-is_branch.false) c.self.invariant.0 c.self.view_is c.self.invariant.1.entries_fit
+
+pub settle-requires-clause-some : goal.settle-requires-clause-some
+settle-requires-clause-some g t c = if_some c.insert-done.result.1 _ _ (λ b h. h.some) c.insert-done.ensures.parted.behind
+
+pub settle-requires-clause-empty : goal.settle-requires-clause-empty
+settle-requires-clause-empty g t c = c.room_for_split-spare.ensures.empty
 
 pub insert-done-requires : goal.insert-done-requires
 insert-done-requires g t c κs within =

@@ -8,6 +8,45 @@ use Rattle.tf_btree.proofs.InPlace.{first_part, first-set_same, child_kept, kept
 use Rattle.tf_btree.proofs.Height.{is_counted}
 use Rattle.tf_btree.proofs.node.Node.+insert_in_place.Goals as goal
 
+pub insert_into_leaf_in_place-requires-clause-leaf : goal.insert_into_leaf_in_place-requires-clause-leaf
+insert_into_leaf_in_place-requires-clause-leaf g t c = sym c.is_branch.ensures ∙ c.if-not-is_branch.true
+
+pub insert_into_leaf_in_place-requires-clause-rising : goal.insert_into_leaf_in_place-requires-clause-rising
+insert_into_leaf_in_place-requires-clause-rising g t c = c.requires.rising
+
+pub insert_into_leaf_in_place-requires-clause-some : goal.insert_into_leaf_in_place-requires-clause-some
+insert_into_leaf_in_place-requires-clause-some g t c = c.requires.some
+
+pub returns-then-not-is_branch-clause-all : goal.returns-then-not-is_branch-clause-all
+returns-then-not-is_branch-clause-all g t c = c.insert_into_leaf_in_place.ensures.all
+
+pub returns-then-not-is_branch-clause-value : goal.returns-then-not-is_branch-clause-value
+returns-then-not-is_branch-clause-value g t c = c.insert_into_leaf_in_place.ensures.value
+
+pub returns-then-not-is_branch-clause-kept : goal.returns-then-not-is_branch-clause-kept
+returns-then-not-is_branch-clause-kept g t c = c.insert_into_leaf_in_place.ensures.kept
+
+pub returns-then-not-is_branch-clause-first : goal.returns-then-not-is_branch-clause-first
+returns-then-not-is_branch-clause-first g t c = c.insert_into_leaf_in_place.ensures.first
+
+pub returns-then-not-is_branch-clause-level : goal.returns-then-not-is_branch-clause-level
+returns-then-not-is_branch-clause-level g t c = c.insert_into_leaf_in_place.ensures.level
+
+pub returns-then-not-is_branch-clause-entries : goal.returns-then-not-is_branch-clause-entries
+returns-then-not-is_branch-clause-entries g t c = c.insert_into_leaf_in_place.ensures.entries
+
+pub returns-then-not-is_branch-clause-filled : goal.returns-then-not-is_branch-clause-filled
+returns-then-not-is_branch-clause-filled g t c = c.insert_into_leaf_in_place.ensures.filled
+
+pub find_child-at-requires-clause-branch : goal.find_child-at-requires-clause-branch
+find_child-at-requires-clause-branch g t c = sym c.is_branch.ensures ∙ c.if-not-is_branch.false
+
+pub find_child-at-requires-clause-rising : goal.find_child-at-requires-clause-rising
+find_child-at-requires-clause-rising g t c = c.requires.rising
+
+pub find_child-at-requires-clause-some : goal.find_child-at-requires-clause-some
+find_child-at-requires-clause-some g t c = c.requires.some
+
 pub insert_in_place-replaced-requires : goal.insert_in_place-replaced-requires
 insert_in_place-replaced-requires g t c κs within =
     let branch = sym c.is_branch.ensures ∙ c.if-not-is_branch.false in

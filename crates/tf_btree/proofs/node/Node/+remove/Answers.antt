@@ -1,5 +1,5 @@
-use Rattle.tf_btree.proofs.Words.{rules, Bool, remove, true, Some, length, refl, sym, ◌∙◌, ap, arith, nil_from_length, length-set, length-remove, with_value, IsFilled, one_more, edge_at, joined, rows, fill_of, value_at}
-use Rattle.tf_btree.proofs.Entries.{child_at, same_parts, same_fills, length-seen, room_after}
+use Rattle.tf_btree.proofs.Words.{rules, Bool, remove, Some, length, refl, sym, ◌∙◌, ap, arith, nil_from_length, length-set, length-remove, with_value, IsFilled, one_more, edge_at, joined, rows, fill_of, value_at}
+use Rattle.tf_btree.proofs.Entries.{child_at, same_kind, same_height, same_parts, same_fills, length-seen, room_after}
 use Rattle.tf_btree.proofs.Runs.{entry_value}
 use Rattle.tf_btree.proofs.Placed.{value_below, value_gap, value_found}
 use Rattle.tf_btree.proofs.Parts.{joined-set, joined-remove}
@@ -8,6 +8,39 @@ use Rattle.tf_btree.proofs.Filled.{IsFilled-more, filled_more, filled_fewer, fil
 use Rattle.tf_btree.proofs.Children.{IsLeft, child_put, child_gone, child_filled, room_set}
 use Rattle.tf_btree.proofs.node.Node.+remove.Goals as goal
 use Rattle.tf_btree.proofs.node.Node.+remove.Goals.{then-len-eq0, else-len-eq0}
+
+pub find_row-requires-clause-leaf : goal.find_row-requires-clause-leaf
+find_row-requires-clause-leaf g t c = sym c.is_branch.ensures ∙ c.if-not-is_branch.true
+
+pub find_row-requires-clause-rising : goal.find_row-requires-clause-rising
+find_row-requires-clause-rising g t c = c.requires.rising
+
+pub remove_row-requires-clause-leaf : goal.remove_row-requires-clause-leaf
+remove_row-requires-clause-leaf g t c = sym c.is_branch.ensures ∙ c.if-not-is_branch.true
+
+pub remove_row-requires-clause-in_bounds : goal.remove_row-requires-clause-in_bounds
+remove_row-requires-clause-in_bounds g t c = c.in-Ok.ensures.found.in_range
+
+pub returns-in-Ok-clause-kind : goal.returns-in-Ok-clause-kind
+returns-in-Ok-clause-kind g t c = same_kind c.remove_row.ensures.rest
+
+pub returns-in-Ok-clause-level : goal.returns-in-Ok-clause-level
+returns-in-Ok-clause-level g t c = λ some. same_height c.remove_row.ensures.rest
+
+pub returns-in-Err-clause-kind : goal.returns-in-Err-clause-kind
+returns-in-Err-clause-kind g t c = refl
+
+pub returns-in-Err-clause-level : goal.returns-in-Err-clause-level
+returns-in-Err-clause-level g t c = λ some. refl
+
+pub find_child-at-requires-clause-branch : goal.find_child-at-requires-clause-branch
+find_child-at-requires-clause-branch g t c = sym c.is_branch.ensures ∙ c.if-not-is_branch.false
+
+pub find_child-at-requires-clause-rising : goal.find_child-at-requires-clause-rising
+find_child-at-requires-clause-rising g t c = c.requires.rising
+
+pub find_child-at-requires-clause-some : goal.find_child-at-requires-clause-some
+find_child-at-requires-clause-some g t c = c.requires.some
 
 pub returns-in-Ok-clause-rows : goal.returns-in-Ok-clause-rows
 returns-in-Ok-clause-rows g t c = ap joined (same_parts c.remove_row.ensures.rest) ∙ sym (without_row_at _ _ _ _ c.in-Ok.ensures.found)

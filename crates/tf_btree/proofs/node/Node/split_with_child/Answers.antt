@@ -1,10 +1,56 @@
-use Rattle.tf_btree.proofs.Words.{◌-◌, length, take, drop, insert, false, refl, sym, ◌∙◌, ap, arith, length-take, length-drop, length-insert, rows, fill_of}
+use Rattle.tf_btree.proofs.Words.{◌-◌, length, take, drop, insert, false, refl, sym, ◌∙◌, ap, arith, length-take, length-drop, length-insert, rows, fill_of, empty_node}
 use Rattle.tf_btree.proofs.Runs.{length_insert_pos}
 use Rattle.tf_btree.proofs.Parts.{insert_left, insert_right}
 use Rattle.tf_btree.proofs.Entries.{same_kind, same_height, same_parts, same_fills}
 use Rattle.tf_btree.proofs.Edited.{split_of}
 use Rattle.tf_btree.proofs.Filled.{filled_branch, filled_apart}
+use Rattle.tf_btree.proofs.Splits.{half_some, front_only, front_bounds, front_room, back_bounds, back_room, all_kept, some_behind}
 use Rattle.tf_btree.proofs.node.Node.split_with_child.Goals as goal
+
+pub split_off-requires-clause-some : goal.split_off-requires-clause-some
+split_off-requires-clause-some g c = half_some c.kept_by_split-kept.result c.kept_by_split-kept.ensures.half
+
+pub split_off-requires-clause-in_bounds : goal.split_off-requires-clause-in_bounds
+split_off-requires-clause-in_bounds g c = rw c.requires.full c.kept_by_split-kept.ensures.fits
+
+pub split_off-requires-clause-empty : goal.split_off-requires-clause-empty
+split_off-requires-clause-empty g c = c.deref_mut.ensures.value ∙ c.requires.empty ∙ ap empty_node (sym c.requires.branch)
+
+pub insert_child-requires-clause-branch : goal.insert_child-requires-clause-branch
+insert_child-requires-clause-branch g c = same_kind c.split_off.ensures.left ∙ c.requires.branch
+
+pub insert_child-requires-clause-in_bounds : goal.insert_child-requires-clause-in_bounds
+insert_child-requires-clause-in_bounds g c = front_bounds c.args.self.now.parts c.kept_by_split-kept.result c.args.at c.requires.full _ (same_parts c.split_off.ensures.left) (c.kept_by_split-kept.ensures.front c.if-at-le-HALF.true) c.if-at-le-HALF.true
+
+pub insert_child-requires-clause-room : goal.insert_child-requires-clause-room
+insert_child-requires-clause-room g c = front_room c.args.self.now.parts c.kept_by_split-kept.result c.args.at c.requires.full _ (same_parts c.split_off.ensures.left) (c.kept_by_split-kept.ensures.front c.if-at-le-HALF.true)
+
+pub insert_child-requires-clause-some : goal.insert_child-requires-clause-some
+insert_child-requires-clause-some g c = c.requires.some
+
+pub insert_child-requires-clause-level : goal.insert_child-requires-clause-level
+insert_child-requires-clause-level g c = λ some. same_height c.split_off.ensures.left ∙ c.requires.level
+
+pub insert_child-requires-else-at-le-HALF-clause-branch : goal.insert_child-requires-else-at-le-HALF-clause-branch
+insert_child-requires-else-at-le-HALF-clause-branch g c = same_kind c.deref_mut-else-at-le-HALF.ensures.value ∙ c.split_off.ensures.right_kind ∙ c.requires.branch
+
+pub insert_child-requires-else-at-le-HALF-clause-in_bounds : goal.insert_child-requires-else-at-le-HALF-clause-in_bounds
+insert_child-requires-else-at-le-HALF-clause-in_bounds g c = back_bounds c.args.self.now.parts c.kept_by_split-kept.result c.args.at c.requires.full _ (same_parts c.deref_mut-else-at-le-HALF.ensures.value ∙ c.split_off.ensures.right) (c.kept_by_split-kept.ensures.back c.if-at-le-HALF.false c.requires.in_bounds) c.requires.in_bounds
+
+pub insert_child-requires-else-at-le-HALF-clause-room : goal.insert_child-requires-else-at-le-HALF-clause-room
+insert_child-requires-else-at-le-HALF-clause-room g c = back_room c.args.self.now.parts c.kept_by_split-kept.result c.args.at c.requires.full _ (same_parts c.deref_mut-else-at-le-HALF.ensures.value ∙ c.split_off.ensures.right) c.kept_by_split-kept.ensures.half
+
+pub insert_child-requires-else-at-le-HALF-clause-some : goal.insert_child-requires-else-at-le-HALF-clause-some
+insert_child-requires-else-at-le-HALF-clause-some g c = c.requires.some
+
+pub insert_child-requires-else-at-le-HALF-clause-level : goal.insert_child-requires-else-at-le-HALF-clause-level
+insert_child-requires-else-at-le-HALF-clause-level g c = λ some. same_height c.deref_mut-else-at-le-HALF.ensures.value ∙ c.split_off.ensures.right_level (some_behind c.args.self.now.parts _ c.kept_by_split-kept.result (same_parts c.deref_mut-else-at-le-HALF.ensures.value ∙ c.split_off.ensures.right) some) ∙ c.requires.level
+
+pub returns-then-at-le-HALF-clause-kept : goal.returns-then-at-le-HALF-clause-kept
+returns-then-at-le-HALF-clause-kept g c = λ edge end. front_only c.args.at _ c.if-at-le-HALF.true end
+
+pub returns-else-at-le-HALF-clause-kept : goal.returns-else-at-le-HALF-clause-kept
+returns-else-at-le-HALF-clause-kept g c = λ edge end. all_kept c.args.self.now.parts c.kept_by_split-kept.result c.args.at c.requires.full _ (same_parts c.split_off.ensures.left) (c.kept_by_split-kept.ensures.end edge end)
 
 pub returns-then-at-le-HALF-clause-split : goal.returns-then-at-le-HALF-clause-split
 returns-then-at-le-HALF-clause-split g c =
