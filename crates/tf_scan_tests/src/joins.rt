@@ -1,17 +1,12 @@
-//! Unions and intersections beside the plain filter.
+//! Unions and intersections beside the plain filter. What makes and asks them is generic in the leaf, and names no type of a row.
+ghost use Rattle.std.specs.Prelude.{◌≡◌, IfOk};
 
-use crate::lists::{Multiples, list_of, scan_of};
+use crate::lists::{DIRECTIONS, Multiples, leaf_of, list_of};
 use std::alloc::Allocator;
 use std::process::Abort;
 use std::test::Fail;
+use tf_records::Refusal;
 use tf_scan::{Direction, Leaf, Scan};
-
-/// How many timestamps a scan gives before it seeks, and where it seeks to.
-#[derive(Clone, Copy)]
-pub(super) struct Seek {
-    pub(super) after: u64,
-    pub(super) to: u64,
-}
 
 /// Which timestamps a join of two lists has.
 #[derive(Clone, Copy)]
@@ -20,7 +15,28 @@ pub(super) enum Joined {
     Intersection,
 }
 
+/// Both joins.
+pub(super) const JOINS: [Joined; 2] = [Joined::Union, Joined::Intersection];
+
 impl Joined {
+    /// A join of two leaves: a box for each of them, and two for the join.
+    pub(super) fn of<P: Leaf + Drop, A: Allocator + Copy>(
+        self,
+        alloc: A,
+        left: P,
+        right: P,
+    ) -> Result<Scan<P, A>, Refusal>
+        requires one_direction { P.direction right ≡ P.direction left }
+        ensures { IfOk result (λ scan. scan.direction ≡ P.direction left) }
+    {
+        let left = Scan::leaf(alloc, left)?;
+        let right = Scan::leaf(alloc, right)?;
+        match self {
+            Joined::Union => Scan::union(alloc, left, right),
+            Joined::Intersection => Scan::intersection(alloc, left, right),
+        }
+    }
+
     /// Whether it has a timestamp.
     fn has(self, left: Multiples, right: Multiples, timestamp: u64) -> bool {
         match self {
@@ -30,17 +46,36 @@ impl Joined {
     }
 }
 
+/// Two lists to be joined, how many timestamps the join gives before it seeks, and where it seeks to.
+#[derive(Clone, Copy)]
+pub(super) struct Case {
+    pub(super) left: Multiples,
+    pub(super) right: Multiples,
+    pub(super) after: u64,
+    pub(super) to: u64,
+}
+
+impl Case {
+    /// Two lists, with no seek before everything was given.
+    pub(super) fn of(left: Multiples, right: Multiples) -> Case {
+        Case {
+            left,
+            right,
+            after: u64::MAX,
+            to: 0,
+        }
+    }
+}
+
 /// The scan gives what the plain filter does, where it seeks once.
-pub(super) fn assert_gives<P: Leaf, A: Allocator>(
+fn assert_gives<P: Leaf, A: Allocator>(
     rt: &impl Abort,
     scan: &mut Scan<P, A>,
     joined: Joined,
-    left: Multiples,
-    right: Multiples,
-    seek: Seek,
+    case: Case,
 ) {
     let direction = scan.direction();
-    let end = left.end().max(right.end());
+    let end = case.left.end().max(case.right.end());
     let mut given = 0u64;
     let mut sought = false;
     for place in 0..end {
@@ -48,93 +83,60 @@ pub(super) fn assert_gives<P: Leaf, A: Allocator>(
             Direction::Rising => place,
             Direction::Falling => end - 1 - place,
         };
-        if given == seek.after && !sought {
-            scan.seek(seek.to);
+        if given == case.after && !sought {
+            scan.seek(case.to);
             sought = true;
         }
-        let passed = sought && direction.is_before(timestamp, seek.to);
-        if !passed && joined.has(left, right, timestamp) {
+        let passed = sought && direction.is_before(timestamp, case.to);
+        if !passed && joined.has(case.left, case.right, timestamp) {
             assert!(rt; scan.next() == Some(timestamp));
             given = given.saturating_add(1);
         }
     }
     assert!(rt; scan.next().is_none());
-    scan.seek(seek.to);
+    scan.seek(case.to);
     assert!(rt; scan.next().is_none());
 }
 
-/// The same of a join of these two lists.
-fn assert_join(
-    rt: &(impl Abort + AllocGlobal),
+/// The same of a join of these two leaves.
+pub(super) fn assert_join<P: Leaf + Drop, A: Allocator + Copy>(
+    rt: &impl Abort,
+    alloc: A,
     joined: Joined,
-    lists: (&[u64], &[u64]),
-    multiples: (Multiples, Multiples),
-    direction: Direction,
-    seek: Seek,
-) -> Result<(), Fail> {
-    let left = scan_of(rt.alloc(), direction, lists.0)?;
-    let right = scan_of(rt.alloc(), direction, lists.1)?;
-    let mut scan = match joined {
-        Joined::Union => Scan::union(rt.alloc(), left, right)?,
-        Joined::Intersection => Scan::intersection(rt.alloc(), left, right)?,
-    };
-    assert_gives(rt, &mut scan, joined, multiples.0, multiples.1, seek);
+    left: P,
+    right: P,
+    case: Case,
+) -> Result<(), Fail>
+    requires one_direction { P.direction right ≡ P.direction left }
+{
+    let mut scan = joined.of(alloc, left, right)?;
+    assert_gives(rt, &mut scan, joined, case);
     Ok(())
 }
 
 /// The same of both joins of two lists, in both directions.
-fn assert_joins(
-    rt: &(impl Abort + AllocGlobal),
-    left: Multiples,
-    right: Multiples,
-    seek: Seek,
-) -> Result<(), Fail> {
-    for direction in [Direction::Rising, Direction::Falling] {
-        let lefts = list_of(rt.alloc(), direction, left)?;
-        let rights = list_of(rt.alloc(), direction, right)?;
-        let lists = (lefts.as_slice(), rights.as_slice());
-        assert_join(rt, Joined::Union, lists, (left, right), direction, seek)?;
-        assert_join(
-            rt,
-            Joined::Intersection,
-            lists,
-            (left, right),
-            direction,
-            seek,
-        )?;
+fn assert_joins(rt: &(impl Abort + AllocGlobal), case: Case) -> Result<(), Fail> {
+    for direction in DIRECTIONS {
+        let lefts = list_of(rt.alloc(), direction, case.left)?;
+        let rights = list_of(rt.alloc(), direction, case.right)?;
+        for joined in JOINS {
+            let left = leaf_of(direction, &lefts)?;
+            let right = leaf_of(direction, &rights)?;
+            assert_join(rt, rt.alloc(), joined, left, right, case)?;
+        }
     }
     Ok(())
 }
-
-/// No seek before everything was given.
-pub(super) const NEVER: Seek = Seek {
-    after: u64::MAX,
-    to: 0,
-};
 
 #[test]
 fn joins_are_the_plain_filter(rt: HostRuntime) -> Result<(), Fail> {
     for count in [0, 1, 5_000] {
         for other in [0, 1, 5_000] {
-            let left = Multiples { of: 2, count };
-            assert_joins(
-                &rt,
-                left,
-                Multiples {
-                    of: 3,
-                    count: other,
-                },
-                NEVER,
-            )?;
-            assert_joins(
-                &rt,
-                left,
-                Multiples {
-                    of: 2,
-                    count: other,
-                },
-                NEVER,
-            )?;
+            for of in [3, 2] {
+                let left = Multiples { of: 2, count };
+                let right = Multiples { of, count: other };
+                assert_joins(&rt, Case::of(left, right))?;
+            }
         }
     }
     // One with few timestamps and one with many.
@@ -143,8 +145,8 @@ fn joins_are_the_plain_filter(rt: HostRuntime) -> Result<(), Fail> {
         of: 1,
         count: 5_000,
     };
-    assert_joins(&rt, few, many, NEVER)?;
-    assert_joins(&rt, many, few, NEVER)
+    assert_joins(&rt, Case::of(few, many))?;
+    assert_joins(&rt, Case::of(many, few))
 }
 
 #[test]
@@ -157,60 +159,79 @@ fn seeks_before_on_and_past_each_end_are_the_plain_filter(rt: HostRuntime) -> Re
         of: 3,
         count: 5_000,
     };
+    let tos = [
+        0,
+        1,
+        6,
+        7,
+        8,
+        9,
+        5_000,
+        9_996,
+        9_998,
+        9_999,
+        14_996,
+        14_997,
+        14_998,
+        u64::MAX,
+    ];
     for after in [0, 1, 100] {
-        for to in [
-            0,
-            1,
-            6,
-            7,
-            8,
-            9,
-            5_000,
-            9_996,
-            9_998,
-            9_999,
-            14_996,
-            14_997,
-            14_998,
-            u64::MAX,
-        ] {
-            assert_joins(&rt, left, right, Seek { after, to })?;
+        for to in tos {
+            assert_joins(
+                &rt,
+                Case {
+                    left,
+                    right,
+                    after,
+                    to,
+                },
+            )?;
         }
     }
-    let one = Multiples { of: 7, count: 1 };
+    let left = Multiples { of: 7, count: 1 };
     for to in [0, 1, u64::MAX] {
-        assert_joins(&rt, one, right, Seek { after: 0, to })?;
-        assert_joins(&rt, one, one, Seek { after: 0, to })?;
+        for right in [right, left] {
+            assert_joins(
+                &rt,
+                Case {
+                    left,
+                    right,
+                    after: 0,
+                    to,
+                },
+            )?;
+        }
     }
     Ok(())
 }
 
 /// The union of a list with the intersection of two others.
-fn assert_join_of_join(
-    rt: &(impl Abort + AllocGlobal),
-    direction: Direction,
-    twos: &[u64],
-    threes: &[u64],
-    fives: &[u64],
-) -> Result<(), Fail> {
-    let two = scan_of(rt.alloc(), direction, twos)?;
-    let three = scan_of(rt.alloc(), direction, threes)?;
-    let five = scan_of(rt.alloc(), direction, fives)?;
-    let both = Scan::intersection(rt.alloc(), two, three)?;
-    let mut scan = Scan::union(rt.alloc(), both, five)?;
-    let six = Multiples { of: 6, count: 500 };
-    let five = Multiples { of: 5, count: 600 };
-    let seek = Seek {
+fn assert_join_of_join<P: Leaf + Drop, A: Allocator + Copy>(
+    rt: &impl Abort,
+    alloc: A,
+    two: P,
+    three: P,
+    five: P,
+) -> Result<(), Fail>
+    requires two { P.direction three ≡ P.direction two }
+    requires three { P.direction five ≡ P.direction two }
+{
+    let both = Joined::Intersection.of(alloc, two, three)?;
+    let five = Scan::leaf(alloc, five)?;
+    let mut scan = Scan::union(alloc, both, five)?;
+    let case = Case {
+        left: Multiples { of: 6, count: 500 },
+        right: Multiples { of: 5, count: 600 },
         after: 3,
         to: 1_500,
     };
-    assert_gives(rt, &mut scan, Joined::Union, six, five, seek);
+    assert_gives(rt, &mut scan, Joined::Union, case);
     Ok(())
 }
 
 #[test]
 fn joins_of_joins_are_joins_too(rt: HostRuntime) -> Result<(), Fail> {
-    for direction in [Direction::Rising, Direction::Falling] {
+    for direction in DIRECTIONS {
         let twos = list_of(
             rt.alloc(),
             direction,
@@ -228,7 +249,10 @@ fn joins_of_joins_are_joins_too(rt: HostRuntime) -> Result<(), Fail> {
             },
         )?;
         let fives = list_of(rt.alloc(), direction, Multiples { of: 5, count: 600 })?;
-        assert_join_of_join(&rt, direction, &twos, &threes, &fives)?;
+        let two = leaf_of(direction, &twos)?;
+        let three = leaf_of(direction, &threes)?;
+        let five = leaf_of(direction, &fives)?;
+        assert_join_of_join(&rt, rt.alloc(), two, three, five)?;
     }
     Ok(())
 }

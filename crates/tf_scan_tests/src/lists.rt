@@ -1,9 +1,12 @@
-//! Lists of timestamps, and scans of them.
+//! Lists of timestamps, and leaves over them.
 ghost use Rattle.std.specs.Prelude.{◌≡◌, IfOk};
 
 use std::alloc::{AllocError, Allocator};
 use std::test::Fail;
-use tf_scan::{Direction, PostingList, Scan};
+use tf_scan::{Direction, PostingList};
+
+/// Both directions.
+pub const DIRECTIONS: [Direction; 2] = [Direction::Rising, Direction::Falling];
 
 /// The first multiples of a number, 0 among them.
 #[derive(Clone, Copy)]
@@ -44,14 +47,14 @@ pub fn list_of<A: Allocator>(
     Ok(list)
 }
 
-/// A scan of the timestamps in a list.
-pub fn scan_of<'a, A: Allocator>(
-    alloc: A,
-    direction: Direction,
-    list: &'a [u64],
-) -> Result<Scan<PostingList<'a>, A>, Fail>
-    ensures { IfOk result (λ scan. scan.direction ≡ direction) }
+/// The first multiples of a number, in rising order.
+pub fn rising_of<A: Allocator>(alloc: A, of: u64, count: u64) -> Result<Vec<u64, A>, AllocError> {
+    list_of(alloc, Direction::Rising, Multiples { of, count })
+}
+
+/// A leaf of the timestamps in a list.
+pub fn leaf_of(direction: Direction, list: &[u64]) -> Result<PostingList<'_>, Fail>
+    ensures { IfOk result (λ leaf. leaf.direction ≡ direction) }
 {
-    let leaf = PostingList::new(direction, list).ok_or("out of order")?;
-    Ok(Scan::leaf(alloc, leaf)?)
+    Ok(PostingList::new(direction, list).ok_or("out of order")?)
 }

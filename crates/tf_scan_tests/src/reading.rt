@@ -2,7 +2,8 @@
 ghost use Rattle.std.specs.Prelude.{◌≡◌, IfOk};
 ghost use Rattle.tf_scan.specs.declared.direction.Direction.TheVariants.{Rising};
 
-use crate::lists::{Multiples, list_of};
+use crate::joins::Joined;
+use crate::lists::{leaf_of, rising_of};
 use std::alloc::Allocator;
 use std::cell::Cell;
 use std::process::Abort;
@@ -43,21 +44,17 @@ impl<'a> Leaf for Counted<'a> {
     }
 }
 
-/// A scan of the timestamps in a list, which rise, that counts how often it is read.
-fn counted_scan_of<'a, A: Allocator>(
-    alloc: A,
-    list: &'a [u64],
-    reads: &'a Cell<u64>,
-) -> Result<Scan<Counted<'a>, A>, Fail>
-    ensures { IfOk result (λ scan. scan.direction ≡ Rising) }
+/// A leaf of the timestamps in a list, which rise, that counts how often it is read.
+fn count_reads<'a>(list: &'a [u64], reads: &'a Cell<u64>) -> Result<Counted<'a>, Fail>
+    ensures { IfOk result (λ leaf. leaf.list.direction ≡ Rising) }
 {
-    let list = PostingList::new(Direction::Rising, list).ok_or("out of order")?;
-    Ok(Scan::leaf(alloc, Counted { list, reads })?)
+    let list = leaf_of(Direction::Rising, list)?;
+    Ok(Counted { list, reads })
 }
 
-/// The two parts were read so often.
-fn assert_reads(rt: &impl Abort, left: &Cell<u64>, right: &Cell<u64>, wanted: (u64, u64)) {
-    assert!(rt; (left.get(), right.get()) == wanted);
+/// Whether the two parts were read so often.
+fn have_read(left: &Cell<u64>, right: &Cell<u64>, lefts: u64, rights: u64) -> bool {
+    left.get() == lefts && right.get() == rights
 }
 
 /// The union reads the first timestamp of each part at its first `next`, and then no further than it needs.
@@ -67,32 +64,15 @@ fn assert_reads_late<P: Leaf, A: Allocator>(
     evens: &Cell<u64>,
     tens: &Cell<u64>,
 ) {
-    assert_reads(rt, evens, tens, (0, 0));
-    assert!(rt; scan.next() == Some(0));
-    assert_reads(rt, evens, tens, (1, 1));
-    // Both gave theirs, so both are asked again, and then one of them until the other's turn.
-    assert!(rt; scan.next() == Some(2));
-    assert_reads(rt, evens, tens, (2, 2));
-    assert!(rt; scan.next() == Some(4));
-    assert!(rt; scan.next() == Some(6));
-    assert_reads(rt, evens, tens, (4, 2));
+    assert!(rt; have_read(evens, tens, 0, 0));
+    // Behind 0 both gave theirs, so both are asked again, and then one of them until the other's turn.
+    for (timestamp, lefts, rights) in [(0, 1, 1), (2, 2, 2), (4, 3, 2), (6, 4, 2)] {
+        assert!(rt; scan.next() == Some(timestamp));
+        assert!(rt; have_read(evens, tens, lefts, rights));
+    }
     // The seek stays before the first timestamp of one, so the other alone is asked.
     scan.seek(9);
-    assert_reads(rt, evens, tens, (5, 2));
-}
-
-/// The same of a union of two lists.
-fn assert_union_reads_late<'a>(
-    rt: &(impl Abort + AllocGlobal),
-    lists: (&'a [u64], &'a [u64]),
-    evens: &'a Cell<u64>,
-    tens: &'a Cell<u64>,
-) -> Result<(), Fail> {
-    let left = counted_scan_of(rt.alloc(), lists.0, evens)?;
-    let right = counted_scan_of(rt.alloc(), lists.1, tens)?;
-    let mut scan = Scan::union(rt.alloc(), left, right)?;
-    assert_reads_late(rt, &mut scan, evens, tens);
-    Ok(())
+    assert!(rt; have_read(evens, tens, 5, 2));
 }
 
 /// The one with many timestamps is sought about as often as the other has some.
@@ -102,56 +82,38 @@ fn assert_seeks<P: Leaf, A: Allocator>(
     few: &Cell<u64>,
     many: &Cell<u64>,
 ) {
-    assert_reads(rt, few, many, (0, 0));
+    assert!(rt; have_read(few, many, 0, 0));
     for place in 0..10u64 {
         assert!(rt; scan.next() == Some(500 * place));
     }
     assert!(rt; scan.next().is_none());
-    assert!(rt; few.get() <= 11);
-    assert!(rt; many.get() <= 40);
+    assert!(rt; few.get() <= 11 && many.get() <= 40);
 }
 
-/// The same of an intersection of two lists.
-fn assert_intersection_seeks<'a>(
+/// How far a join of two lists reads them.
+fn assert_reads(
     rt: &(impl Abort + AllocGlobal),
-    lists: (&'a [u64], &'a [u64]),
-    few: &'a Cell<u64>,
-    many: &'a Cell<u64>,
+    joined: Joined,
+    lefts: &[u64],
+    rights: &[u64],
 ) -> Result<(), Fail> {
-    let left = counted_scan_of(rt.alloc(), lists.0, few)?;
-    let right = counted_scan_of(rt.alloc(), lists.1, many)?;
-    let mut scan = Scan::intersection(rt.alloc(), left, right)?;
-    assert_seeks(rt, &mut scan, few, many);
+    let (left, right) = (Cell::new(0), Cell::new(0));
+    let first = count_reads(lefts, &left)?;
+    let second = count_reads(rights, &right)?;
+    let mut scan = joined.of(rt.alloc(), first, second)?;
+    match joined {
+        Joined::Union => assert_reads_late(rt, &mut scan, &left, &right),
+        Joined::Intersection => assert_seeks(rt, &mut scan, &left, &right),
+    }
     Ok(())
 }
 
 #[test]
 fn leaves_are_read_no_further_than_needed(rt: HostRuntime) -> Result<(), Fail> {
-    let evens = list_of(
-        rt.alloc(),
-        Direction::Rising,
-        Multiples { of: 2, count: 50 },
-    )?;
-    let tens = list_of(
-        rt.alloc(),
-        Direction::Rising,
-        Multiples { of: 10, count: 10 },
-    )?;
-    let (left, right) = (Cell::new(0), Cell::new(0));
-    assert_union_reads_late(&rt, (&evens, &tens), &left, &right)?;
-    let few = list_of(
-        rt.alloc(),
-        Direction::Rising,
-        Multiples { of: 500, count: 10 },
-    )?;
-    let many = list_of(
-        rt.alloc(),
-        Direction::Rising,
-        Multiples {
-            of: 1,
-            count: 5_000,
-        },
-    )?;
-    let (left, right) = (Cell::new(0), Cell::new(0));
-    assert_intersection_seeks(&rt, (&few, &many), &left, &right)
+    let evens = rising_of(rt.alloc(), 2, 50)?;
+    let tens = rising_of(rt.alloc(), 10, 10)?;
+    assert_reads(&rt, Joined::Union, &evens, &tens)?;
+    let few = rising_of(rt.alloc(), 500, 10)?;
+    let many = rising_of(rt.alloc(), 1, 5_000)?;
+    assert_reads(&rt, Joined::Intersection, &few, &many)
 }
