@@ -1,7 +1,7 @@
 //! A crew: all workers at once, round one queue.
 ghost use Rattle.std.specs.Prelude.{◌≡◌, ◌<◌, ◌≤◌, length, vec_len, IfOk};
 
-use crate::start::run_workers;
+use crate::threads::run_workers;
 use crate::{Answered, Gate, Joined, Section, StormFault, WantOfMemory};
 use std::alloc::Global;
 use std::marker::{Send, Sync};

@@ -32,10 +32,7 @@ pub(crate) fn join_clients<H: Drop, J: Drop, R: Threads>(
             fault,
         } = thread.join(rt);
         complete &= keep(&mut done, Done::Client { pieces, stored }) && fault.is_none();
-        match shares.push(share) {
-            Ok(()) => {}
-            Err(_) => unreachable!(),
-        }
+        shares.push_reserved(share);
     }
     Joined {
         shares,

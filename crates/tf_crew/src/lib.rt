@@ -1,7 +1,7 @@
 //! Workers in threads of their own, whatever they work on: clients, compactors and query workers round one queue of jobs.
 //!
 //! What a worker does once is a closure that its caller gives, so that nothing here knows what is stored, or under which lock it lies.
-//! [`run_crew`] starts all of them in nested scopes and joins them; [`client_by`], [`compactor_by`] and [`query_worker_by`] are the
+//! [`run_crew`] starts all of them in one scope and joins them; [`client_by`], [`compactor_by`] and [`query_worker_by`] are the
 //! workers themselves.
 #![tactic(auto)]
 
@@ -14,6 +14,7 @@ mod gate;
 mod join;
 mod query_workers;
 mod start;
+mod threads;
 
 pub use clients::client_by;
 pub use compactors::compactor_by;

@@ -1,244 +1,212 @@
-//! Workers in threads of their own. Scopes are nested: query workers begin first and are joined last; then compactors; clients begin
-//! last and are joined first.
-ghost use Rattle.std.specs.Prelude.{◌≡◌, ◌+◌, ◌≤◌, length, vec_len, IfOk};
+//! Starts of workers, each in a thread of its own in a scope that all of them share.
+ghost use Rattle.std.specs.Prelude.{◌≡◌, ◌+◌, ◌≤◌, length, vec_capacity, vec_len, OnOk};
 ghost use Rattle.std.specs.List.{All};
 
 use crate::clients::client_by;
 use crate::compactors::compactor_by;
 use crate::crew::COMPACTORS;
-use crate::join::{join_clients, join_compactors, join_query_workers};
 use crate::query_workers::query_worker_by;
-use crate::{Answered, Done, Gate, Joined, Section, StormFault, WantOfMemory};
+use crate::{Answered, Asked, Compacted, Ended, Gate, Section, StormFault, WantOfMemory};
 use std::alloc::Global;
 use std::marker::{Send, Sync};
 use std::sync::Wait;
-use std::thread;
-use std::thread::Threads;
+use std::thread::{JoinHandle, Scope};
 use tf_jobs::{JobQueue, JobSeat};
 
-/// Runs a client for each script, all at once, and gives their shares back.
-///
-/// `NoMemory` where none was started, and `NoThread` where one couldn't be: those that were started are joined then, and the shares
-/// are gone.
-fn run_clients<W, H, J, F, R, G>(
-    rt: &R,
-    alloc: Global,
-    run: &F,
-    scripts: &[Vec<W>],
-    shares: Vec<H, Global>,
-    queue: &JobQueue<J>,
-    seats: Vec<JobSeat<J>, Global>,
-    gate: &G,
-) -> Result<Joined<H>, StormFault>
+/// Starts a client with so many pieces of work. None where its thread couldn't be made.
+fn start_client<'s, E, H, J, F, R, G>(
+    scope: &Scope<'s, E>,
+    rt: &'s R,
+    run: &'s F,
+    pieces: usize,
+    share: H,
+    queue: &'s JobQueue<J>,
+    seat: JobSeat<J>,
+    worker: u32,
+    gate: &'s G,
+) -> Option<JoinHandle<Ended<H, J>>>
 where
-    W: Sync + Drop,
-    H: Send + Drop,
-    J: Send + Sync + Drop,
+    H: Send + Drop + 's,
+    J: Send + Drop + 's,
     F: Fn(u32, usize, H) -> Section<H, J> + Sync,
-    R: Wait + Threads + Sync,
+    R: Wait + Sync,
+    G: Gate + Sync,
+    requires run { F.IsAlwaysCallable run.now }
+    requires seat { seat.queue ≡ queue.now.number }
+{
+    scope
+        .spawn(
+            move ||
+                requires run { F.IsAlwaysCallable run.now }
+                requires seat { seat.queue ≡ queue.now.number }
+            { client_by(rt, run, pieces, share, queue, seat, worker, gate) },
+        )
+        .ok()
+}
+
+/// Starts a client for each script, the first of them as worker 0. `NoThread` where one couldn't be: those before it run then.
+pub(crate) fn start_clients<'s, E, W, H, J, F, R, G>(
+    scope: &Scope<'s, E>,
+    rt: &'s R,
+    run: &'s F,
+    scripts: &[Vec<W>],
+    shares: &mut Vec<H, Global>,
+    queue: &'s JobQueue<J>,
+    seats: &mut Vec<JobSeat<J>, Global>,
+    gate: &'s G,
+    threads: &mut Vec<JoinHandle<Ended<H, J>>, Global>,
+) -> Result<(), StormFault>
+where
+    W: Drop,
+    H: Send + Drop + 's,
+    J: Send + Drop + 's,
+    F: Fn(u32, usize, H) -> Section<H, J> + Sync,
+    R: Wait + Sync,
     G: Gate + Sync,
     requires calls { F.IsAlwaysCallable run.now }
     requires few { length scripts.now ≤ 64 }
-    requires many { (vec_len shares ≡ length scripts.now) × (vec_len seats ≡ length scripts.now) }
-    requires seats { All (λ s. s.queue ≡ queue.now.number) seats.items }
-    ensures { IfOk result (λ joined. vec_len joined.shares ≡ length scripts.now) }
+    requires many { (vec_len shares.old ≡ length scripts.now) × (vec_len seats.old ≡ length scripts.now) }
+    requires seats { All (λ s. s.queue ≡ queue.now.number) seats.old.items }
+    requires room { (vec_len threads.old ≡ 0) × (length scripts.now ≤ vec_capacity threads.old) }
+    ensures most { vec_len threads.new ≤ length scripts.now }
+    ensures each { OnOk result (vec_len threads.new ≡ length scripts.now) }
 {
-    thread::scope(
-        thread::scope_env(),
-        rt,
-        move |scope| -> Result<Joined<H>, StormFault>
-            requires calls { F.IsAlwaysCallable run.now }
-            requires few { length scripts.now ≤ 64 }
-            requires many { (vec_len shares ≡ length scripts.now) × (vec_len seats ≡ length scripts.now) }
-            requires seats { All (λ s. s.queue ≡ queue.now.number) seats.items }
-            ensures { IfOk result (λ joined. vec_len joined.shares ≡ length scripts.entry.now) }
-        {
-            let room = Vec::with_capacity(alloc, scripts.len())?;
-            let done = Vec::with_capacity(alloc, scripts.len())?;
-            let mut threads = Vec::with_capacity(alloc, scripts.len())?;
-            let mut shares = shares;
-            let mut seats = seats;
-            for place in 0..scripts.len() {
-                let pieces = scripts[place].len();
-                let Some(share) = shares.pop() else {
-                    unreachable!()
-                };
-                let Some(seat) = seats.pop() else {
-                    unreachable!()
-                };
-                let worker = place as u32;
-                let Ok(thread) = scope.spawn(
-                    move ||
-                        requires run { F.IsAlwaysCallable run.now }
-                        requires seat { seat.queue ≡ queue.now.number }
-                    { client_by(rt, run, pieces, share, queue, seat, worker, gate) },
-                ) else {
-                    return Err(StormFault::NoThread);
-                };
-                match threads.push(thread) {
-                    Ok(()) => {}
-                    Err(_) => unreachable!(),
-                }
-            }
-            Ok(join_clients(rt, room, done, threads))
-        },
-    )
-}
-
-/// What was joined, with what further workers did, and whether they were complete. It is incomplete where there is no memory for that.
-fn with_others<H: Drop>(joined: Joined<H>, others: Vec<Done, Global>, complete: bool) -> Joined<H>
-    ensures { vec_len result.shares ≡ vec_len joined.shares }
-{
-    let mut joined = joined;
-    joined.complete &= complete;
-    for other in others {
-        joined.complete &= joined.done.push(other).is_ok();
+    for place in 0..scripts.len() {
+        let pieces = scripts[place].len();
+        let Some(share) = shares.pop() else {
+            unreachable!()
+        };
+        let Some(seat) = seats.pop() else {
+            unreachable!()
+        };
+        let worker = place as u32;
+        let Some(thread) = start_client(scope, rt, run, pieces, share, queue, seat, worker, gate)
+        else {
+            return Err(StormFault::NoThread);
+        };
+        threads.push_reserved(thread);
     }
-    joined
+    Ok(())
 }
 
-/// Runs two compactors beside the clients. The queue is closed on every way out: once the clients are joined, and where a compactor
-/// couldn't be started.
-fn run_compactors<W, H, J, F, P, R, G>(
-    rt: &R,
-    alloc: Global,
-    run: &F,
-    compact: &P,
-    scripts: &[Vec<W>],
-    shares: Vec<H, Global>,
-    queue: &JobQueue<J>,
-    seats: Vec<JobSeat<J>, Global>,
+/// Starts a compactor. None where its thread couldn't be made.
+fn start_compactor<'s, E, J, P, R, G>(
+    scope: &Scope<'s, E>,
+    rt: &'s R,
+    compact: &'s P,
+    queue: &'s JobQueue<J>,
+    seat: JobSeat<J>,
+    worker: u32,
+    gate: &'s G,
+) -> Option<JoinHandle<Compacted<J>>>
+where
+    J: Send + Drop + 's,
+    P: Fn(J) -> Result<bool, WantOfMemory> + Sync,
+    R: Wait + Sync,
+    G: Gate + Sync,
+    requires compact { P.IsAlwaysCallable compact.now }
+    requires seat { seat.queue ≡ queue.now.number }
+{
+    scope
+        .spawn(
+            move ||
+                requires compact { P.IsAlwaysCallable compact.now }
+                requires seat { seat.queue ≡ queue.now.number }
+            { compactor_by(rt, compact, queue, seat, worker, gate) },
+        )
+        .ok()
+}
+
+/// Starts two compactors, which take a seat each, as this worker and the next. `NoThread` where one couldn't be: the one before it
+/// runs then.
+pub(crate) fn start_compactors<'s, E, J, P, R, G>(
+    scope: &Scope<'s, E>,
+    rt: &'s R,
+    compact: &'s P,
+    queue: &'s JobQueue<J>,
+    seats: &mut Vec<JobSeat<J>, Global>,
     first: u32,
-    gate: &G,
-) -> Result<Joined<H>, StormFault>
+    gate: &'s G,
+    threads: &mut Vec<JoinHandle<Compacted<J>>, Global>,
+) -> Result<(), StormFault>
 where
-    W: Sync + Drop,
-    H: Send + Drop,
-    J: Send + Sync + Drop,
-    F: Fn(u32, usize, H) -> Section<H, J> + Sync,
+    J: Send + Drop + 's,
     P: Fn(J) -> Result<bool, WantOfMemory> + Sync,
-    R: Wait + Threads + Sync,
+    R: Wait + Sync,
     G: Gate + Sync,
-    requires calls { F.IsAlwaysCallable run.now × P.IsAlwaysCallable compact.now }
-    requires few { (length scripts.now ≤ 64) × (first ≤ 128) }
-    requires many { (vec_len shares ≡ length scripts.now) × (vec_len seats ≡ length scripts.now + 2) }
-    requires seats { All (λ s. s.queue ≡ queue.now.number) seats.items }
-    ensures { IfOk result (λ joined. vec_len joined.shares ≡ length scripts.now) }
+    requires calls { P.IsAlwaysCallable compact.now }
+    requires few { first ≤ 128 }
+    requires many { 2 ≤ vec_len seats.old }
+    requires seats { All (λ s. s.queue ≡ queue.now.number) seats.old.items }
+    requires room { (vec_len threads.old ≡ 0) × (2 ≤ vec_capacity threads.old) }
+    ensures many { OnOk result (vec_len seats.new + 2 ≡ vec_len seats.old) }
+    ensures seats { All (λ s. s.queue ≡ queue.now.number) seats.new.items }
 {
-    thread::scope(
-        thread::scope_env(),
-        rt,
-        move |scope| -> Result<Joined<H>, StormFault>
-            requires calls { F.IsAlwaysCallable run.now × P.IsAlwaysCallable compact.now }
-            requires few { (length scripts.now ≤ 64) × (first ≤ 128) }
-            requires many { (vec_len shares ≡ length scripts.now) × (vec_len seats ≡ length scripts.now + 2) }
-            requires seats { All (λ s. s.queue ≡ queue.now.number) seats.items }
-            ensures { IfOk result (λ joined. vec_len joined.shares ≡ length scripts.entry.now) }
-        {
-            let mut threads = Vec::with_capacity(alloc, COMPACTORS as usize)?;
-            let mut seats = seats;
-            for place in 0..COMPACTORS {
-                let Some(seat) = seats.pop() else {
-                    unreachable!()
-                };
-                let worker = first + place;
-                let Ok(thread) = scope.spawn(
-                    move ||
-                        requires compact { P.IsAlwaysCallable compact.now }
-                        requires seat { seat.queue ≡ queue.now.number }
-                    { compactor_by(rt, compact, queue, seat, worker, gate) },
-                ) else {
-                    queue.close();
-                    return Err(StormFault::NoThread);
-                };
-                match threads.push(thread) {
-                    Ok(()) => {}
-                    Err(_) => unreachable!(),
-                }
-            }
-            let joined = run_clients(rt, alloc, run, scripts, shares, queue, seats, gate);
-            queue.close();
-            let mut merges = Vec::new(alloc);
-            let merged = join_compactors(rt, &mut merges, threads);
-            match joined {
-                Ok(joined) => Ok(with_others(joined, merges, merged)),
-                Err(fault) => Err(fault),
-            }
-        },
-    )
+    for place in 0..COMPACTORS {
+        let Some(seat) = seats.pop() else {
+            unreachable!()
+        };
+        let worker = first + place;
+        let Some(thread) = start_compactor(scope, rt, compact, queue, seat, worker, gate) else {
+            return Err(StormFault::NoThread);
+        };
+        threads.push_reserved(thread);
+    }
+    Ok(())
 }
 
-/// Runs all workers: a query worker for each reader, two compactors, and a client for each script. Gives the clients' shares back.
-pub(crate) fn run_workers<W, X, H, J, Q, F, P, K, R, G>(
-    rt: &R,
-    alloc: Global,
-    run: &F,
-    compact: &P,
-    ask: &K,
-    scripts: &[Vec<W>],
-    asks: &[Vec<X>],
-    shares: Vec<H, Global>,
-    readers: Vec<Q, Global>,
-    queue: &JobQueue<J>,
-    seats: Vec<JobSeat<J>, Global>,
-    gate: &G,
-) -> Result<Joined<H>, StormFault>
+/// Starts a query worker with so many questions. None where its thread couldn't be made.
+fn start_query_worker<'s, E, Q, K, G>(
+    scope: &Scope<'s, E>,
+    ask: &'s K,
+    reader: Q,
+    questions: usize,
+    worker: u32,
+    gate: &'s G,
+) -> Option<JoinHandle<Asked>>
 where
-    W: Sync + Drop,
-    X: Sync + Drop,
-    H: Send + Drop,
-    J: Send + Sync + Drop,
-    F: Fn(u32, usize, H) -> Section<H, J> + Sync,
-    P: Fn(J) -> Result<bool, WantOfMemory> + Sync,
+    Q: Send + Drop + 's,
     K: Fn(u32, usize, Q) -> Answered<Q> + Sync,
-    Q: Send + Drop,
-    R: Wait + Threads + Sync,
     G: Gate + Sync,
-    requires calls { F.IsAlwaysCallable run.now × P.IsAlwaysCallable compact.now × K.IsAlwaysCallable ask.now }
-    requires few { (length scripts.now ≤ 64) × (length asks.now ≤ 64) × (vec_len readers ≤ length asks.now) }
-    requires many { (vec_len shares ≡ length scripts.now) × (vec_len seats ≡ length scripts.now + 2) }
-    requires seats { All (λ s. s.queue ≡ queue.now.number) seats.items }
-    ensures { IfOk result (λ joined. vec_len joined.shares ≡ length scripts.now) }
+    requires { K.IsAlwaysCallable ask.now }
 {
-    thread::scope(
-        thread::scope_env(),
-        rt,
-        move |scope| -> Result<Joined<H>, StormFault>
-            requires calls { F.IsAlwaysCallable run.now × P.IsAlwaysCallable compact.now × K.IsAlwaysCallable ask.now }
-            requires few { (length scripts.now ≤ 64) × (length asks.now ≤ 64) × (vec_len readers ≤ length asks.now) }
-            requires many { (vec_len shares ≡ length scripts.now) × (vec_len seats ≡ length scripts.now + 2) }
-            requires seats { All (λ s. s.queue ≡ queue.now.number) seats.items }
-            ensures { IfOk result (λ joined. vec_len joined.shares ≡ length scripts.entry.now) }
-        {
-            let clients = scripts.len() as u32;
-            let first = clients + asks.len() as u32;
-            let mut threads = Vec::with_capacity(alloc, readers.len())?;
-            let mut place = 0usize;
-            for reader in readers {
-                let questions = asks[place].len();
-                let worker = clients + place as u32;
-                let Ok(thread) = scope.spawn(
-                    move ||
-                        requires { K.IsAlwaysCallable ask.now }
-                    { query_worker_by(ask, reader, questions, worker, gate) },
-                ) else {
-                    return Err(StormFault::NoThread);
-                };
-                match threads.push(thread) {
-                    Ok(()) => {}
-                    Err(_) => unreachable!(),
-                }
-                place += 1;
-            }
-            let joined = run_compactors(
-                rt, alloc, run, compact, scripts, shares, queue, seats, first, gate,
-            );
-            let mut answers = Vec::new(alloc);
-            let asked = join_query_workers(rt, &mut answers, threads);
-            match joined {
-                Ok(joined) => Ok(with_others(joined, answers, asked)),
-                Err(fault) => Err(fault),
-            }
-        },
-    )
+    scope
+        .spawn(
+            move ||
+                requires { K.IsAlwaysCallable ask.now }
+            { query_worker_by(ask, reader, questions, worker, gate) },
+        )
+        .ok()
+}
+
+/// Starts a query worker for each reader, from this worker on. `NoThread` where one couldn't be: those before it run then.
+pub(crate) fn start_query_workers<'s, E, X, Q, K, G>(
+    scope: &Scope<'s, E>,
+    ask: &'s K,
+    asks: &[Vec<X>],
+    readers: Vec<Q, Global>,
+    first: u32,
+    gate: &'s G,
+    threads: &mut Vec<JoinHandle<Asked>, Global>,
+) -> Result<(), StormFault>
+where
+    X: Drop,
+    Q: Send + Drop + 's,
+    K: Fn(u32, usize, Q) -> Answered<Q> + Sync,
+    G: Gate + Sync,
+    requires calls { K.IsAlwaysCallable ask.now }
+    requires few { (first ≤ 64) × (length asks.now ≤ 64) × (vec_len readers ≤ length asks.now) }
+    requires room { (vec_len threads.old ≡ 0) × (vec_len readers ≤ vec_capacity threads.old) }
+{
+    let mut place = 0usize;
+    for reader in readers {
+        let questions = asks[place].len();
+        let worker = first + place as u32;
+        let Some(thread) = start_query_worker(scope, ask, reader, questions, worker, gate) else {
+            return Err(StormFault::NoThread);
+        };
+        threads.push_reserved(thread);
+        place += 1;
+    }
+    Ok(())
 }

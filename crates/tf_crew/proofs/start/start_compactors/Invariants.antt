@@ -1,10 +1,10 @@
-use Rattle.std.proofs.Common.{◌≡◌, ◌+◌, ◌≤◌, length, vec_capacity, vec_len}
+use Rattle.std.proofs.Common.{◌≡◌, ◌+◌, ◌≤◌, vec_capacity, vec_len}
 use Rattle.std.specs.List.{All}
-use Rattle.tf_crew.proofs.start.fn.run_compactors.scope.Given as goal
+use Rattle.tf_crew.proofs.start.start_compactors.Given as goal
 
 abbrev pub invariant-loop-place : goal.invariant-loop-place
 invariant-loop-place g l =
     (vec_len l.threads ≡ l.place)
     × (2 ≤ vec_capacity l.threads)
-    × (vec_len l.seats + l.place ≡ length l.scripts + 2)
+    × (vec_len l.seats + l.place ≡ vec_len l.fn.seats)
     × All (λ s. s.queue ≡ l.queue.number) l.seats.items

@@ -1,6 +1,6 @@
 use Rattle.std.proofs.Common.{◌≡◌, ◌+◌, ◌≤◌, length, vec_capacity, vec_len}
 use Rattle.std.specs.List.{All}
-use Rattle.tf_crew.proofs.start.fn.run_clients.scope.Given as goal
+use Rattle.tf_crew.proofs.start.start_clients.Given as goal
 
 abbrev pub invariant-loop-place : goal.invariant-loop-place
 invariant-loop-place g l =

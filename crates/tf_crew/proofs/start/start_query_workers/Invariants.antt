@@ -1,5 +1,5 @@
 use Rattle.std.proofs.Common.{◌≡◌, ◌+◌, ◌≤◌, length, vec_capacity, vec_len}
-use Rattle.tf_crew.proofs.start.fn.run_workers.scope.Given as goal
+use Rattle.tf_crew.proofs.start.start_query_workers.Given as goal
 
 abbrev pub invariant-loop-reader : goal.invariant-loop-reader
 invariant-loop-reader g l =
