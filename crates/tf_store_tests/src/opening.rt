@@ -25,7 +25,7 @@ use tf_store::{
     VersionOf,
 };
 use tf_store_trials::{Parties, Tested, answers_held, answers_of};
-use tf_trials::{AMPLE, Stopped, Tally, Trial, has_room, run_text, take_all_but};
+use tf_trials::{AMPLE, Stopped, Tally, Trial, has_room, run_text};
 
 /// How many shares each store has.
 const SHARES: u32 = 64;
@@ -143,7 +143,7 @@ where
     let (shares, readers) = given;
     let lists = rt.alloc();
     let mut tested = Tested::new(rt, lists, alloc, store, shares, readers);
-    assert_ran(rt, run_text(lists, &mut tested, trial, text));
+    assert_ran(rt, run_text(&mut tested, trial, text));
     tested.into_parties()
 }
 
@@ -162,7 +162,7 @@ fn assert_closed<V: Publishable + Drop, A: Allocator, S: StoreName>(
 /// What outlives a store answers as the plain ledger did when it was marked, and its tables are kept.
 fn assert_outlives(rt: &impl Abort, trial: &Trial<'_>, tally: Tally) {
     assert!(rt; tally.is_right && tally.rows > 100);
-    assert!(rt; trial.heap.used() >= KEPT);
+    assert!(rt; trial.room.heap.used() >= KEPT);
 }
 
 /// Once a store is dropped its readers are given nothing more. What the trial says outlives it.
@@ -348,7 +348,7 @@ fn with_registries<'h, R: Abort + AllocGlobal + Wait>(
     course: Course<'_>,
 ) -> Result<(), Refusal> {
     if course.fixture.lacks_memory {
-        take_all_but(&mut trial.filled, heap, 0)?;
+        trial.room.fill(0)?;
     }
     with_name::<Brand, R>(rt, heap, trial, registries, BlankStore::new(SHARES), course);
     Ok(())

@@ -3,8 +3,9 @@
 use crate::calls::{act, count, is_alike, publish, run};
 use crate::outcomes::is_refusal;
 use crate::plain::Outcome;
-use crate::trial::Trial;
-use crate::tried::{Act, Acted, Counted, Told, Tried};
+use crate::room::Room;
+use crate::tried::{Act, Acted, Counted, Tried};
+use crate::twin::Twin;
 use crate::words::is_number;
 use std::alloc::Global;
 use tf_records::Refusal;
@@ -24,127 +25,130 @@ pub enum Attempt<'a> {
 /// Makes a call, again with more and more room where it is refused memory and the trial says so. After each refusal all is as
 /// before. Tells whether its answer is that of the word, and that of the plain ledger.
 pub fn try_out<F: Tried>(
-    alloc: Global,
     store: &mut F,
-    trial: &mut Trial<'_>,
+    twin: &mut Twin,
+    room: &mut Room<'_>,
     attempt: Attempt<'_>,
     word: &str,
 ) -> Result<bool, Refusal> {
-    let before = count(store, trial.share);
-    for refused in 0..trial.tries() {
-        trial.limit_room(refused)?;
-        let answered = answered(alloc, store, trial, attempt, word)?;
-        trial.free_room();
-        if let Some(is_right) = answered {
-            return Ok(is_right && refused >= trial.growth.refusals && is_like_twin(store, trial));
-        }
-        if !is_as_before(store, trial, attempt, &before) {
-            return Ok(false);
+    let growth = room.growth;
+    for refused in 0..growth.tries() {
+        room.limit(refused)?;
+        match try_once(store, twin, room, attempt, word) {
+            Ok(None) => {}
+            Ok(Some(is_right)) => return Ok(is_right && refused >= growth.refusals),
+            Err(refusal) => return Err(refusal),
         }
     }
     Ok(is_refusal(Refusal::NoMemory, word))
 }
 
+/// Makes a call in the room that it is given. None where it is refused memory and leaves all as it was.
+fn try_once<F: Tried>(
+    store: &mut F,
+    twin: &mut Twin,
+    room: &mut Room<'_>,
+    attempt: Attempt<'_>,
+    word: &str,
+) -> Result<Option<bool>, Refusal> {
+    let before = count(store, twin);
+    let answered = answered(store, twin, attempt, word);
+    room.end_limit();
+    match answered {
+        Ok(Some(true)) => Ok(Some(is_alike(store, twin))),
+        Ok(None) if !is_as_before(store, twin, attempt, &before) => Ok(Some(false)),
+        _ => answered,
+    }
+}
+
 /// Whether a call is answered as a word says, or None where it was refused memory.
 fn answered<F: Tried>(
-    alloc: Global,
     store: &mut F,
-    trial: &mut Trial<'_>,
+    twin: &mut Twin,
     attempt: Attempt<'_>,
     word: &str,
 ) -> Result<Option<bool>, Refusal> {
     match attempt {
-        Attempt::Run(command) => run_answered(alloc, store, trial, command, word),
-        Attempt::Publish(learner) => Ok(publish_answered(store, trial, learner, word)),
-        Attempt::Take => Ok(taken(act(store, Act::Take), word)),
+        Attempt::Run(command) => has_run(store, twin, command, word),
+        Attempt::Publish(learner) => Ok(has_published(store, twin, learner, word)),
+        Attempt::Take => Ok(has_taken(store, word)),
     }
 }
 
-/// The same of a batch or a pulse.
-fn run_answered<F: Tried>(
-    alloc: Global,
+/// The same of a batch or a pulse: whether its outcome is that of the plain ledger too.
+fn has_run<F: Tried>(
     store: &mut F,
-    trial: &mut Trial<'_>,
+    twin: &mut Twin,
     command: &Command<Global>,
     word: &str,
 ) -> Result<Option<bool>, Refusal> {
-    let outcome = run(store, trial.share, command);
-    ran(alloc, trial, &outcome, command, word)
+    let outcome = run(store, twin.share, command);
+    let acted = acted_by(&outcome);
+    if is_short(acted) {
+        return Ok(None);
+    }
+    let is_right = twin.follow(&outcome, command)?;
+    Ok(Some(is_right && acted.is(word)))
 }
 
-/// The same of a publish.
-fn publish_answered<F: Tried>(
+/// What became of a batch or a pulse.
+fn acted_by(outcome: &Outcome) -> Acted {
+    match outcome {
+        Ok(_) => Acted::Done,
+        Err(refusal) => Acted::Refused(*refusal),
+    }
+}
+
+/// Whether memory was refused.
+fn is_short(acted: Acted) -> bool {
+    matches!(acted, Acted::Refused(Refusal::NoMemory))
+}
+
+/// The same of a publish: whether as many receipts as a word says are handed out, those of all batches that waited.
+pub fn has_published<F: Tried>(
     store: &mut F,
-    trial: &mut Trial<'_>,
+    twin: &mut Twin,
     learner: Option<usize>,
     word: &str,
 ) -> Option<bool> {
-    published(trial, publish(store, learner), word)
-}
-
-/// Whether an outcome is that of the plain ledger and of a word.
-fn ran(
-    alloc: Global,
-    trial: &mut Trial<'_>,
-    outcome: &Outcome,
-    command: &Command<Global>,
-    word: &str,
-) -> Result<Option<bool>, Refusal> {
-    let is_named = match outcome {
-        Ok(_) => Acted::Done.is(word),
-        Err(Refusal::NoMemory) => return Ok(None),
-        Err(refusal) => is_refusal(*refusal, word),
-    };
-    let is_right = trial.twin.follow(alloc, outcome, command)?;
-    Ok(Some(is_right && is_named))
-}
-
-/// Whether as many receipts as a word says are handed out, those of all batches that waited.
-fn published(
-    trial: &mut Trial<'_>,
-    outcome: Result<Vec<Told, Global>, Refusal>,
-    word: &str,
-) -> Option<bool> {
-    match outcome {
+    match publish(store, learner) {
         Ok(told) => {
             let is_counted = word == "any" || is_number(word, told.len());
-            let is_right = trial.twin.is_told(&told);
-            trial.told = told;
-            Some(is_right && is_counted)
+            Some(twin.is_told(told) && is_counted)
         }
         Err(Refusal::NoMemory) => None,
         Err(refusal) => Some(is_refusal(refusal, word)),
     }
 }
 
-/// Whether taking a version is answered as a word says.
-fn taken(acted: Acted, word: &str) -> Option<bool> {
-    match acted {
-        Acted::Refused(Refusal::NoMemory) => None,
-        _ => Some(acted.is(word)),
+/// The same of a version that is taken.
+pub fn has_taken<F: Tried>(store: &mut F, word: &str) -> Option<bool> {
+    let acted = act(store, Act::Take);
+    if is_short(acted) {
+        None
+    } else {
+        Some(acted.is(word))
     }
-}
-
-/// Whether the store is like the plain ledger, unless no ids are to be looked up.
-pub fn is_like_twin<F: Tried>(store: &mut F, trial: &Trial<'_>) -> bool {
-    trial.ids == 0 || is_alike(store, trial.twin.plain(), trial.ids)
 }
 
 /// Whether a call that was refused memory has left all as it was, but for tables that a publish pushed.
 pub fn is_as_before<F: Tried>(
     store: &mut F,
-    trial: &Trial<'_>,
+    twin: &Twin,
     attempt: Attempt<'_>,
     before: &Counted,
 ) -> bool {
-    let counted = count(store, trial.share);
+    let counted = count(store, twin);
     let is_same = match attempt {
         Attempt::Run(_) => counted == *before,
-        _ => {
-            counted.references == before.references
-                && counted.registered >= before.registered
-                && counted.rows_held <= counted.rows_sealed.wrapping_mul(21)
-        }
+        _ => has_only_pushed(&counted, before),
     };
-    is_same && is_like_twin(store, trial)
+    is_same && is_alike(store, twin)
+}
+
+/// Whether a store counts the same as before, but for tables that were pushed and that no row has.
+fn has_only_pushed(counted: &Counted, before: &Counted) -> bool {
+    counted.references == before.references
+        && counted.registered >= before.registered
+        && counted.rows_held <= counted.rows_sealed.wrapping_mul(21)
 }

@@ -2,6 +2,7 @@
 
 use crate::plain::{Answer, Outcome, Plain};
 use crate::tried::{Act, Acted, Answered, Call, Counted, Tally, Told, Tried, Whom};
+use crate::twin::Twin;
 use std::alloc::Global;
 use tf_records::Refusal;
 use tf_script::Command;
@@ -41,17 +42,22 @@ pub fn ask<F: Tried>(store: &mut F, whom: Whom, plain: &Plain) -> Tally {
     }
 }
 
+/// Whether the store's look-ups are those of the plain ledger, unless no ids are to be looked up.
+pub fn is_alike<F: Tried>(store: &mut F, twin: &Twin) -> bool {
+    twin.ids == 0 || is_like(store, twin.plain(), twin.ids)
+}
+
 /// Whether the store's look-ups, of so many ids, are those of the plain ledger.
-pub fn is_alike<F: Tried>(store: &mut F, plain: &Plain, ids: u32) -> bool {
+fn is_like<F: Tried>(store: &mut F, plain: &Plain, ids: u32) -> bool {
     match store.call(Call::Compare(plain, ids)) {
         Answered::Compared(is_alike) => is_alike,
         _ => false,
     }
 }
 
-/// What the store counts, and what a share does.
-pub fn count<F: Tried>(store: &mut F, share: usize) -> Counted {
-    match store.call(Call::Count(share)) {
+/// What the store counts, and what the share does that stores what comes next.
+pub fn count<F: Tried>(store: &mut F, twin: &Twin) -> Counted {
+    match store.call(Call::Count(twin.share)) {
         Answered::Counted(counted) => counted,
         _ => Counted::NOTHING,
     }

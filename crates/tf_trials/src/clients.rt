@@ -3,6 +3,7 @@ ghost use Rattle.std.specs.Prelude.{◌≡◌, vec_len, IfOk};
 
 use crate::dice::Dice;
 use crate::events::{account, transfer};
+use crate::lists::{add, only, push};
 use crate::plain::Plain;
 use std::alloc::Global;
 use tf_records::{Account, Refusal, Transfer};
@@ -13,12 +14,11 @@ pub type Commands = Vec<Command<Global>, Global>;
 
 /// An account event without user data.
 pub fn bare_account(id: u64) -> Account {
-    Account {
-        user_data_128: 0,
-        user_data_64: 0,
-        user_data_32: 0,
-        ..account(id, 0)
-    }
+    let mut event = account(id, 0);
+    event.user_data_128 = 0;
+    event.user_data_64 = 0;
+    event.user_data_32 = 0;
+    event
 }
 
 /// A transfer event of 10 without user data, from one account to the next.
@@ -36,43 +36,40 @@ fn posted(id: u64, debit: u64) -> Transfer {
 
 /// The same, pending, with a timeout of one second.
 fn pending(id: u64, debit: u64) -> Transfer {
-    Transfer {
-        timeout: 1,
-        flags: Transfer::PENDING,
-        ..posted(id, debit)
-    }
+    let mut event = posted(id, debit);
+    event.timeout = 1;
+    event.flags = Transfer::PENDING;
+    event
 }
 
 /// The same, posted, from an account that isn't there.
 fn failing(id: u64, credit: u64) -> Transfer {
-    Transfer {
-        debit_account_id: u128::MAX - 1,
-        credit_account_id: u128::from(credit),
-        ..posted(id, 0)
-    }
+    let mut event = posted(id, 0);
+    event.debit_account_id = u128::MAX - 1;
+    event.credit_account_id = u128::from(credit);
+    event
 }
 
 /// A batch of two accounts, of which the second has the next id.
 fn two_accounts(alloc: Global, id: u64, now: u64) -> Result<Command<Global>, Refusal> {
-    let mut events = Vec::new(alloc);
-    events.push(bare_account(id))?;
-    events.push(bare_account(id.wrapping_add(1)))?;
-    Ok(Command::Accounts { now, events })
+    let events = [bare_account(id), bare_account(id.wrapping_add(1))];
+    Ok(Command::Accounts {
+        now,
+        events: events.to_vec(alloc)?,
+    })
 }
 
 /// A batch of one pending transfer from account 1 to account 2.
 fn one_transfer(alloc: Global, id: u64) -> Result<Command<Global>, Refusal> {
-    let mut events = Vec::new(alloc);
-    events.push(pending(id, 1))?;
+    let events = only(alloc, Ok(pending(id, 1)))?;
     Ok(Command::Transfers { now: 0, events })
 }
 
 /// A batch of accounts 1 and 2, and so many batches of one pending transfer between them.
 pub fn transfers_between_two(alloc: Global, count: u64) -> Result<Commands, Refusal> {
-    let mut commands = Vec::new(alloc);
-    commands.push(two_accounts(alloc, 1, 1000)?)?;
+    let mut commands = only(alloc, two_accounts(alloc, 1, 1000))?;
     for number in 0..count {
-        commands.push(one_transfer(alloc, number.wrapping_add(1))?)?;
+        add(&mut commands, one_transfer(alloc, number.wrapping_add(1)))?;
     }
     Ok(commands)
 }
@@ -81,7 +78,8 @@ pub fn transfers_between_two(alloc: Global, count: u64) -> Result<Commands, Refu
 fn six_batches(alloc: Global, first: u64) -> Result<Commands, Refusal> {
     let mut commands = Vec::new(alloc);
     for number in 0..6u64 {
-        commands.push(two_accounts(alloc, first.wrapping_add(number * 2), 0)?)?;
+        let id = first.wrapping_add(number.wrapping_mul(2));
+        add(&mut commands, two_accounts(alloc, id, 0))?;
     }
     Ok(commands)
 }
@@ -97,6 +95,15 @@ pub fn that_meet(alloc: Global) -> Result<Vec<Commands, Global>, Refusal>
     Ok(scripts)
 }
 
+/// A transfer from one account to the next, pending or posted, or one of an account that isn't there.
+fn random_transfer(dice: &mut Dice, id: u64, first: u64) -> Transfer {
+    match dice.below(4) {
+        0 => failing(id, first.wrapping_add(1)),
+        1 => posted(id, first),
+        _ => pending(id, first),
+    }
+}
+
 /// A few transfers from one account to the next. Some are pending, and some are of an account that isn't there.
 fn random_transfers(
     alloc: Global,
@@ -106,12 +113,10 @@ fn random_transfers(
 ) -> Result<Command<Global>, Refusal> {
     let mut events = Vec::new(alloc);
     for number in 0..=dice.below(3) {
-        let id = id.wrapping_add(number);
-        events.push(match dice.below(4) {
-            0 => failing(id, first.wrapping_add(1)),
-            1 => posted(id, first),
-            _ => pending(id, first),
-        })?;
+        push(
+            &mut events,
+            random_transfer(dice, id.wrapping_add(number), first),
+        )?;
     }
     Ok(Command::Transfers { now: 0, events })
 }
@@ -133,11 +138,10 @@ fn random_command(
 
 /// A random script of five commands on accounts of its own.
 fn random_script(alloc: Global, dice: &mut Dice, first: u64) -> Result<Commands, Refusal> {
-    let mut commands = Vec::new(alloc);
-    commands.push(two_accounts(alloc, first, 0)?)?;
+    let mut commands = only(alloc, two_accounts(alloc, first, 0))?;
     for number in 1..5u64 {
-        let id = first.wrapping_add(number * 10);
-        commands.push(random_command(alloc, dice, id, first)?)?;
+        let id = first.wrapping_add(number.wrapping_mul(10));
+        add(&mut commands, random_command(alloc, dice, id, first))?;
     }
     Ok(commands)
 }

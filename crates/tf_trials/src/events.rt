@@ -1,6 +1,7 @@
 //! Events, rounds of them that have something for each row, and random commands.
 
 use crate::dice::Dice;
+use crate::lists::{add, only, push};
 use std::alloc::Global;
 use tf_records::{Account, Refusal, Transfer};
 use tf_script::Command;
@@ -48,67 +49,84 @@ pub fn transfer(id: u64, flags: u16) -> Transfer {
 
 /// The accounts 1 to 4, the second with history and the third with a limit.
 pub fn accounts(alloc: Global) -> Result<Command<Global>, Refusal> {
-    let mut events = Vec::new(alloc);
-    let flags = [
-        0,
-        Account::HISTORY,
-        Account::DEBITS_MUST_NOT_EXCEED_CREDITS,
-        0,
+    let events = [
+        account(1, 0),
+        account(2, Account::HISTORY),
+        account(3, Account::DEBITS_MUST_NOT_EXCEED_CREDITS),
+        account(4, 0),
     ];
-    for (before, flags) in flags.iter().enumerate() {
-        events.push(account((before as u64).wrapping_add(1), *flags))?;
-    }
-    Ok(Command::Accounts { now: 0, events })
+    Ok(Command::Accounts {
+        now: 0,
+        events: events.to_vec(alloc)?,
+    })
 }
 
 /// A batch of so many transfers, with ids from the first on.
 pub fn transfers(alloc: Global, first: u64, count: u64) -> Result<Command<Global>, Refusal> {
     let mut events = Vec::new(alloc);
     for before in 0..count {
-        events.push(transfer(first.wrapping_add(before), 0))?;
+        push(&mut events, transfer(first.wrapping_add(before), 0))?;
     }
     Ok(Command::Transfers { now: 0, events })
 }
 
 /// A batch of one account.
 fn one_account(alloc: Global, id: u64) -> Result<Command<Global>, Refusal> {
-    let mut events = Vec::new(alloc);
-    events.push(account(id, 0))?;
+    let events = only(alloc, Ok(account(id, 0)))?;
     Ok(Command::Accounts { now: 0, events })
 }
 
 /// A transfer that is posted, one that fails for a passing reason, one that stays pending, and one whose time is over soon.
 fn four_transfers(alloc: Global, first: u64, now: u64) -> Result<Command<Global>, Refusal> {
-    let mut events = Vec::new(alloc);
-    events.push(transfer(first, 0))?;
-    events.push(Transfer {
-        debit_account_id: 3,
-        ..transfer(first.wrapping_add(1), 0)
-    })?;
-    for (before, timeout) in [(2, 1000), (3, 1)] {
-        events.push(Transfer {
-            timeout,
-            ..transfer(first.wrapping_add(before), Transfer::PENDING)
-        })?;
+    let events = [
+        transfer(first, 0),
+        of_account_3(first.wrapping_add(1)),
+        pending(first.wrapping_add(2), 1000),
+        pending(first.wrapping_add(3), 1),
+    ];
+    Ok(Command::Transfers {
+        now,
+        events: events.to_vec(alloc)?,
+    })
+}
+
+/// A transfer event of account 3, which may have no debits.
+fn of_account_3(id: u64) -> Transfer {
+    let mut event = transfer(id, 0);
+    event.debit_account_id = 3;
+    event
+}
+
+/// A pending transfer event with a timeout.
+fn pending(id: u64, timeout: u32) -> Transfer {
+    let mut event = transfer(id, Transfer::PENDING);
+    event.timeout = timeout;
+    event
+}
+
+/// One of the three commands of a round: an account, transfers, or a pulse.
+pub fn one_of_round(alloc: Global, number: u64, place: u64) -> Result<Command<Global>, Refusal> {
+    let second = number.wrapping_add(1).wrapping_mul(10);
+    match place {
+        0 => one_account(alloc, number.wrapping_add(11)),
+        1 => {
+            let first = number.wrapping_mul(4).wrapping_add(1);
+            four_transfers(alloc, first, second.wrapping_mul(SECOND))
+        }
+        _ => Ok(Command::Pulse {
+            now: second.wrapping_add(5).wrapping_mul(SECOND),
+            max: 10,
+        }),
     }
-    Ok(Command::Transfers { now, events })
 }
 
 /// The commands of a round, which store something in each row once they are published: an account, transfers, and a pulse, by
 /// which one expires. It uses an account id from 11 on and four transfer ids from 1 on.
 pub fn round(alloc: Global, number: u64) -> Result<Vec<Command<Global>, Global>, Refusal> {
-    let second = number.wrapping_add(1).wrapping_mul(10);
     let mut commands = Vec::new(alloc);
-    commands.push(one_account(alloc, number.wrapping_add(11))?)?;
-    commands.push(four_transfers(
-        alloc,
-        number.wrapping_mul(4).wrapping_add(1),
-        second.wrapping_mul(SECOND),
-    )?)?;
-    commands.push(Command::Pulse {
-        now: second.wrapping_add(5).wrapping_mul(SECOND),
-        max: 10,
-    })?;
+    for place in 0..3u64 {
+        add(&mut commands, one_of_round(alloc, number, place))?;
+    }
     Ok(commands)
 }
 
@@ -170,7 +188,7 @@ fn any_transfers(alloc: Global, dice: &mut Dice) -> Result<Command<Global>, Refu
         } else {
             moving(dice)
         };
-        events.push(event)?;
+        push(&mut events, event)?;
     }
     Ok(Command::Transfers {
         now: dice.below(20).wrapping_mul(SECOND),
@@ -183,7 +201,7 @@ fn any_accounts(alloc: Global, dice: &mut Dice) -> Result<Command<Global>, Refus
     let mut events = Vec::new(alloc);
     for _ in 0..dice.below(3) {
         let flags = dice.one_of(&[0, Account::LINKED, Account::HISTORY, Account::IMPORTED]);
-        events.push(account(dice.below(7), flags))?;
+        push(&mut events, account(dice.below(7), flags))?;
     }
     Ok(Command::Accounts { now: 0, events })
 }
@@ -216,10 +234,9 @@ pub fn any_commands(
     count: u64,
 ) -> Result<Vec<Command<Global>, Global>, Refusal> {
     let mut dice = Dice::new(seed);
-    let mut commands = Vec::new(alloc);
-    commands.push(accounts(alloc)?)?;
+    let mut commands = only(alloc, accounts(alloc))?;
     for _ in 1..count {
-        commands.push(any_command(alloc, &mut dice)?)?;
+        add(&mut commands, any_command(alloc, &mut dice))?;
     }
     Ok(commands)
 }

@@ -1,5 +1,6 @@
 //! Heaps of which all but a hole is taken.
 
+use crate::lists::push;
 use linked_list_allocator::LocalHeap;
 use std::alloc::{AllocError, Global};
 
@@ -9,12 +10,26 @@ pub const AMPLE: usize = 1 << 22;
 /// What was taken of a heap.
 pub type Taken<'h> = Vec<Vec<u8, &'h LocalHeap>, Global>;
 
+/// Takes a block of a size, unless there is no room for it.
+fn take_one<'h>(
+    taken: &mut Taken<'h>,
+    heap: &'h LocalHeap,
+    size: usize,
+) -> Result<bool, AllocError> {
+    match Vec::with_capacity(heap, size) {
+        Ok(block) => {
+            push(taken, block)?;
+            Ok(true)
+        }
+        Err(_) => Ok(false),
+    }
+}
+
 /// Takes blocks of a size until there is none left.
 fn take<'h>(taken: &mut Taken<'h>, heap: &'h LocalHeap, size: usize) -> Result<(), AllocError> {
     for _ in 0..AMPLE / 16 {
-        match Vec::with_capacity(heap, size) {
-            Ok(block) => taken.push(block)?,
-            Err(_) => return Ok(()),
+        if !take_one(taken, heap, size)? {
+            return Ok(());
         }
     }
     Ok(())
@@ -41,13 +56,10 @@ pub fn take_all_but_holes<'h>(
     alloc: Global,
     size: usize,
 ) -> Result<(), AllocError> {
-    let mut blocks = Vec::new(alloc);
-    take(&mut blocks, heap, size)?;
-    let mut keeps = false;
-    for block in blocks {
-        keeps = !keeps;
-        if keeps {
-            taken.push(block)?;
+    let mut holes = Vec::new(alloc);
+    for _ in 0..AMPLE / 32 {
+        if !(take_one(taken, heap, size)? && take_one(&mut holes, heap, size)?) {
+            return Ok(());
         }
     }
     Ok(())

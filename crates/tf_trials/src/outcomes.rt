@@ -5,23 +5,15 @@ use crate::tried::Acted;
 use std::alloc::{AllocError, Global};
 use tf_records::Refusal;
 
-/// Whether a word names a refusal. `any` names that for want of memory.
+/// Whether a word names a refusal of a call. `any` names that for want of memory, and none a fault of a script or a record.
 pub fn is_refusal(refusal: Refusal, word: &str) -> bool {
-    match name_of(refusal) {
-        Some(name) => word == name || refusal == Refusal::NoMemory && word == "any",
-        None => false,
-    }
-}
-
-/// The word for a refusal of a call. Faults of scripts and of records have none.
-fn name_of(refusal: Refusal) -> Option<&'static str> {
-    match refusal {
-        Refusal::NoMemory => Some("no_memory"),
-        Refusal::BatchTooLarge => Some("batch_too_large"),
-        Refusal::ClockExhausted => Some("clock_exhausted"),
-        Refusal::Stale => Some("stale"),
-        Refusal::RegistryFull => Some("registry_full"),
-        _ => None,
+    match word {
+        "no_memory" | "any" => refusal == Refusal::NoMemory,
+        "batch_too_large" => refusal == Refusal::BatchTooLarge,
+        "clock_exhausted" => refusal == Refusal::ClockExhausted,
+        "stale" => refusal == Refusal::Stale,
+        "registry_full" => refusal == Refusal::RegistryFull,
+        _ => false,
     }
 }
 

@@ -40,6 +40,11 @@ pub fn batch_outcome<A: Allocator>(alloc: Global, reply: Result<Reply<A>, Refusa
     Ok(Answer::Batch(Reply::from_vec(failures)))
 }
 
+/// What a batch answers.
+fn answered(reply: Result<Reply<Global>, Refusal>) -> Outcome {
+    Ok(Answer::Batch(reply?))
+}
+
 /// What a pulse answers.
 pub fn pulse_outcome(expired: Result<u32, Refusal>) -> Outcome {
     Ok(Answer::Pulse(expired?))
@@ -88,19 +93,19 @@ impl Plain {
     /// Runs a batch or a pulse, and no other command.
     pub fn run(&mut self, alloc: Global, command: &Command<Global>) -> Outcome {
         match command {
-            Command::Accounts { now, events } => Ok(Answer::Batch(run_accounts(
+            Command::Accounts { now, events } => answered(run_accounts(
                 alloc,
                 &mut self.ledger,
                 events.as_slice(),
                 *now,
-            )?)),
-            Command::Transfers { now, events } => Ok(Answer::Batch(run_transfers(
+            )),
+            Command::Transfers { now, events } => answered(run_transfers(
                 alloc,
                 &mut self.ledger,
                 events.as_slice(),
                 *now,
-            )?)),
-            Command::Pulse { now, max } => Ok(Answer::Pulse(pulse(&mut self.ledger, *now, *max)?)),
+            )),
+            Command::Pulse { now, max } => pulse_outcome(pulse(&mut self.ledger, *now, *max)),
             _ => Ok(Answer::Nothing),
         }
     }

@@ -2,6 +2,8 @@
 ghost use Rattle.std.specs.Prelude.{◌<◌, length};
 
 use crate::dice::Dice;
+use crate::events;
+use crate::lists::{add, only, push};
 use std::alloc::Global;
 use tf_records::{Account, Refusal, Transfer};
 use tf_script::Command;
@@ -13,23 +15,11 @@ pub fn one_of<T: Copy>(dice: &mut Dice, all: &[T]) -> T
     all[dice.below(all.len() as u64) as usize]
 }
 
-/// An account event without flags.
-fn account(id: u128) -> Account {
-    Account {
-        id,
-        debits_pending: 0,
-        debits_posted: 0,
-        credits_pending: 0,
-        credits_posted: 0,
-        user_data_128: 1,
-        user_data_64: 2,
-        user_data_32: 3,
-        reserved: 0,
-        ledger: 1,
-        code: 10,
-        flags: 0,
-        timestamp: 0,
-    }
+/// An account event.
+fn account(id: u64, flags: u16) -> Account {
+    let mut event = events::account(id, flags);
+    event.ledger = 1;
+    event
 }
 
 /// Flags of accounts: limits, history, closed, linked, and some that no account may have.
@@ -50,37 +40,23 @@ const ACCOUNT_FLAGS: [u16; 12] = [
 
 /// An account event, in which something is wrong once in a while.
 fn account_event(dice: &mut Dice) -> Account {
-    let event = Account {
-        flags: dice.one_of(&ACCOUNT_FLAGS),
-        ledger: one_of(dice, &[1, 1, 1, 2]),
-        user_data_64: one_of(dice, &[0, 2]),
-        ..account(u128::from(dice.below(12)))
-    };
+    let flags = dice.one_of(&ACCOUNT_FLAGS);
+    let ledger = one_of(dice, &[1, 1, 1, 2]);
+    let user_data_64 = one_of(dice, &[0, 2]);
+    let mut event = account(dice.below(12), flags);
+    event.ledger = ledger;
+    event.user_data_64 = user_data_64;
     match dice.below(40) {
-        0 => Account {
-            id: u128::MAX,
-            ..event
-        },
-        1 => Account { ledger: 0, ..event },
-        2 => Account { code: 0, ..event },
-        3 => Account {
-            reserved: 1,
-            ..event
-        },
-        4 => Account {
-            timestamp: 1,
-            ..event
-        },
-        5 => Account {
-            debits_posted: 1,
-            ..event
-        },
-        6 => Account {
-            credits_pending: 1,
-            ..event
-        },
-        _ => event,
+        0 => event.id = u128::MAX,
+        1 => event.ledger = 0,
+        2 => event.code = 0,
+        3 => event.reserved = 1,
+        4 => event.timestamp = 1,
+        5 => event.debits_posted = 1,
+        6 => event.credits_pending = 1,
+        _ => {}
     }
+    event
 }
 
 /// How many transfer ids are drawn from.
@@ -176,101 +152,57 @@ fn settling_event(dice: &mut Dice) -> Transfer {
     }
 }
 
-/// A transfer event in which something is wrong, if it wasn't before.
-fn wrong_event(dice: &mut Dice, event: Transfer) -> Transfer {
+/// Makes something wrong in a transfer event, if it wasn't before.
+fn spoil(dice: &mut Dice, event: &mut Transfer) {
     match dice.below(13) {
-        0 => Transfer {
-            id: u128::MAX,
-            ..event
-        },
-        1 => Transfer {
-            timestamp: 1,
-            ..event
-        },
-        2 => Transfer {
-            flags: event.flags | 512,
-            ..event
-        },
-        3 => Transfer {
-            flags: event.flags | Transfer::IMPORTED,
-            ..event
-        },
-        4 => Transfer {
-            flags: event.flags | Transfer::VOID_PENDING_TRANSFER,
-            ..event
-        },
-        5 => Transfer {
-            flags: event.flags | Transfer::CLOSING_CREDIT,
-            ..event
-        },
-        6 => Transfer {
-            pending_id: event.id,
-            ..event
-        },
-        7 => Transfer {
-            pending_id: u128::MAX,
-            ..event
-        },
-        8 => Transfer {
-            timeout: 9,
-            ..event
-        },
-        9 => Transfer { ledger: 2, ..event },
-        10 => Transfer {
-            debit_account_id: event.credit_account_id,
-            ..event
-        },
-        11 => Transfer {
-            flags: event.flags | Transfer::BALANCING_DEBIT,
-            ..event
-        },
-        _ => Transfer {
-            ledger: 3,
-            code: 0,
-            ..event
-        },
+        0 => event.id = u128::MAX,
+        1 => event.timestamp = 1,
+        2 => event.flags |= 512,
+        3 => event.flags |= Transfer::IMPORTED,
+        4 => event.flags |= Transfer::VOID_PENDING_TRANSFER,
+        5 => event.flags |= Transfer::CLOSING_CREDIT,
+        6 => event.pending_id = event.id,
+        7 => event.pending_id = u128::MAX,
+        8 => event.timeout = 9,
+        9 => event.ledger = 2,
+        10 => event.debit_account_id = event.credit_account_id,
+        11 => event.flags |= Transfer::BALANCING_DEBIT,
+        _ => {
+            event.ledger = 3;
+            event.code = 0;
+        }
     }
 }
 
-/// An event again, as it was or with one field changed.
-fn again(dice: &mut Dice, event: Transfer) -> Transfer {
+/// Changes a field of an event that comes again, or none.
+fn vary(dice: &mut Dice, event: &mut Transfer) {
     match dice.below(8) {
-        0 => Transfer { amount: 2, ..event },
-        1 => Transfer {
-            user_data_128: 9,
-            ..event
-        },
-        2 => Transfer { code: 9, ..event },
-        3 => Transfer {
-            timeout: 4,
-            ..event
-        },
-        4 => Transfer {
-            credit_account_id: 1,
-            ..event
-        },
-        _ => event,
+        0 => event.amount = 2,
+        1 => event.user_data_128 = 9,
+        2 => event.code = 9,
+        3 => event.timeout = 4,
+        4 => event.credit_account_id = 1,
+        _ => {}
     }
 }
 
 /// A transfer event of any kind.
 fn any_transfer_event(dice: &mut Dice) -> Transfer {
-    let event = match dice.below(10) {
+    let mut event = match dice.below(10) {
         0..4 => posted_event(dice),
         4..7 => pending_event(dice),
         _ => settling_event(dice),
     };
     if dice.below(16) == 0 {
-        wrong_event(dice, event)
-    } else {
-        event
+        spoil(dice, &mut event);
     }
+    event
 }
 
 fn account_events(alloc: Global, dice: &mut Dice) -> Result<Vec<Account, Global>, Refusal> {
     let mut events = Vec::new(alloc);
     for _ in 0..dice.below(4) {
-        events.push(account_event(dice))?;
+        push(&mut events, account_event(dice))?;
     }
     Ok(events)
 }
@@ -279,11 +211,12 @@ fn transfer_events(alloc: Global, dice: &mut Dice) -> Result<Vec<Transfer, Globa
     let mut events = Vec::new(alloc);
     let mut last = any_transfer_event(dice);
     for _ in 0..dice.below(9) {
-        last = match dice.below(10) {
-            0 => again(dice, last),
-            _ => any_transfer_event(dice),
-        };
-        events.push(last)?;
+        if dice.below(10) == 0 {
+            vary(dice, &mut last);
+        } else {
+            last = any_transfer_event(dice);
+        }
+        push(&mut events, last)?;
     }
     Ok(events)
 }
@@ -308,23 +241,18 @@ fn any_command(alloc: Global, dice: &mut Dice, now: u64) -> Result<Command<Globa
 
 /// Six accounts that most transfers are between, two of them with limits and two with history.
 pub fn first_accounts(alloc: Global) -> Result<Command<Global>, Refusal> {
-    let kinds = [
-        0,
-        0,
-        Account::HISTORY,
-        Account::HISTORY,
-        Account::DEBITS_MUST_NOT_EXCEED_CREDITS,
-        Account::CREDITS_MUST_NOT_EXCEED_DEBITS,
+    let events = [
+        account(1, 0),
+        account(2, 0),
+        account(3, Account::HISTORY),
+        account(4, Account::HISTORY),
+        account(5, Account::DEBITS_MUST_NOT_EXCEED_CREDITS),
+        account(6, Account::CREDITS_MUST_NOT_EXCEED_DEBITS),
     ];
-    let mut events = Vec::new(alloc);
-    for (before, flags) in kinds.into_iter().enumerate() {
-        let id = before as u128 + 1;
-        events.push(Account {
-            flags,
-            ..account(id)
-        })?;
-    }
-    Ok(Command::Accounts { now: 1000, events })
+    Ok(Command::Accounts {
+        now: 1000,
+        events: events.to_vec(alloc)?,
+    })
 }
 
 /// How much later than the last command the next one comes, in nanoseconds.
@@ -338,6 +266,15 @@ const PAUSES: [u64; 7] = [
     2_500_000_000,
 ];
 
+/// A moment for the next command, mostly by the clock, or one that is over or past all clocks.
+fn moment(dice: &mut Dice, clock: u64) -> u64 {
+    match dice.below(30) {
+        0 => 0,
+        1 => u64::MAX,
+        _ => clock,
+    }
+}
+
 /// Six accounts, and so many commands after them. Some come at a moment that is over or past all clocks.
 pub fn commands(
     alloc: Global,
@@ -345,17 +282,12 @@ pub fn commands(
     count: usize,
 ) -> Result<Vec<Command<Global>, Global>, Refusal> {
     let mut dice = Dice::new(seed);
-    let mut commands = Vec::new(alloc);
-    commands.push(first_accounts(alloc)?)?;
+    let mut commands = only(alloc, first_accounts(alloc))?;
     let mut clock: u64 = 1000;
     for _ in 0..count {
         clock = clock.saturating_add(one_of(&mut dice, &PAUSES));
-        let now = match dice.below(30) {
-            0 => 0,
-            1 => u64::MAX,
-            _ => clock,
-        };
-        commands.push(any_command(alloc, &mut dice, now)?)?;
+        let now = moment(&mut dice, clock);
+        add(&mut commands, any_command(alloc, &mut dice, now))?;
     }
     Ok(commands)
 }

@@ -11,7 +11,7 @@ use tf_script::Command;
 pub const ROWS: usize = 21;
 
 /// How many rows were answered, and whether each answer was right.
-#[derive(Clone, Copy, Debug)]
+#[derive(Clone, Copy)]
 pub struct Tally {
     pub rows: usize,
     pub is_right: bool,
@@ -41,7 +41,7 @@ pub struct Told {
 }
 
 /// What a store counts.
-#[derive(Clone, Copy, Debug, PartialEq, Eq)]
+#[derive(Clone, Copy, PartialEq, Eq)]
 pub struct Counted {
     /// What shares count.
     pub book: u64,
@@ -79,7 +79,7 @@ impl Counted {
 }
 
 /// What is done with a store, its versions and its merges.
-#[derive(Clone, Copy, Debug)]
+#[derive(Clone, Copy)]
 pub enum Act {
     /// A version is taken of the store, and kept.
     Take,
@@ -100,7 +100,7 @@ pub enum Act {
 }
 
 /// What became of an act.
-#[derive(Clone, Copy, Debug)]
+#[derive(Clone, Copy)]
 pub enum Acted {
     /// It was done.
     Done,
@@ -122,7 +122,7 @@ impl Acted {
 }
 
 /// A version that is asked.
-#[derive(Clone, Copy, Debug)]
+#[derive(Clone, Copy)]
 pub enum Whom {
     /// One that was taken of the store. The first of those that are kept is 0.
     Taken(usize),

@@ -1,30 +1,45 @@
 //! The plain ledger beside a store: what it answers, the store answers too.
 
+use crate::lists::add;
 use crate::plain::{Answer, Outcome, Plain, is_same};
 use crate::tried::Told;
-use std::alloc::{AllocError, Global};
+use std::alloc::Global;
 use tf_journal::Ledger;
 use tf_records::{Refusal, Reply};
 use tf_script::Command;
+
+/// How many ids are looked up, unless a text says otherwise: all that worked examples and random commands use.
+const IDS: u32 = 40;
 
 /// A plain ledger, the batches whose receipts a store owes, as the plain ledger ran them, and the ledger as it was when it was
 /// marked, with what was run since then.
 #[derive(Drop)]
 pub struct Twin {
+    /// Where its lists lie.
+    pub alloc: Global,
     plain: Plain,
     waiting: Vec<Told, Global>,
+    told: Vec<Told, Global>,
     then: Plain,
     since: Vec<Command<Global>, Global>,
+    /// The share that stores what comes next.
+    pub share: usize,
+    /// How many ids are looked up after each call.
+    pub ids: u32,
 }
 
 impl Twin {
     /// An empty ledger, marked, and no batch.
     pub fn new(alloc: Global) -> Twin {
         Twin {
+            alloc,
             plain: Plain::new(alloc),
             waiting: Vec::new(alloc),
+            told: Vec::new(alloc),
             then: Plain::new(alloc),
             since: Vec::new(alloc),
+            share: 0,
+            ids: IDS,
         }
     }
 
@@ -38,50 +53,39 @@ impl Twin {
         &self.then
     }
 
+    /// One of the receipts that the last publish handed out. The first is 0.
+    pub fn told(&self, place: usize) -> Option<&Told> {
+        self.told.get(place)
+    }
+
     /// Marks the ledger as it is.
-    pub fn mark(&mut self, alloc: Global) {
-        run_all(alloc, &mut self.then, &self.since);
+    pub fn mark(&mut self) {
+        run_all(self.alloc, &mut self.then, &self.since);
         self.since.clear();
     }
 
     /// Runs a batch or a pulse that the store ran. Tells whether both have the same outcome.
     pub fn follow(
         &mut self,
-        alloc: Global,
         outcome: &Outcome,
         command: &Command<Global>,
     ) -> Result<bool, Refusal> {
+        let alloc = self.alloc;
         let clock = self.plain.ledger().clock();
         let expected = self.plain.run(alloc, command);
         let is_right = is_same(outcome, &expected);
-        self.since.push(copy_of(alloc, command)?)?;
+        add(&mut self.since, copy_of(alloc, command))?;
         if let Some(reply) = reply_of(expected) {
-            self.wait(alloc, command, clock, reply)?;
+            add(&mut self.waiting, waits(alloc, command, clock, reply))?;
         }
         Ok(is_right)
     }
 
-    /// A batch waits for its receipt.
-    fn wait(
-        &mut self,
-        alloc: Global,
-        command: &Command<Global>,
-        clock: u64,
-        reply: Reply<Global>,
-    ) -> Result<(), Refusal> {
-        let batch = copy_of(alloc, command)?;
-        self.waiting.push(Told {
-            batch,
-            clock,
-            reply: reply.into_vec(),
-        })?;
-        Ok(())
-    }
-
     /// Whether these are the receipts of all batches that waited, in their order. Then none waits.
-    pub fn is_told(&mut self, told: &Vec<Told, Global>) -> bool {
-        let is_right = are_told(told, &self.waiting);
+    pub fn is_told(&mut self, told: Vec<Told, Global>) -> bool {
+        let is_right = are_told(&told, &self.waiting);
         self.waiting.clear();
+        self.told = told;
         is_right
     }
 }
@@ -94,6 +98,20 @@ fn reply_of(outcome: Outcome) -> Option<Reply<Global>> {
     }
 }
 
+/// A batch that waits for its receipt.
+fn waits(
+    alloc: Global,
+    command: &Command<Global>,
+    clock: u64,
+    reply: Reply<Global>,
+) -> Result<Told, Refusal> {
+    Ok(Told {
+        batch: copy_of(alloc, command)?,
+        clock,
+        reply: reply.into_vec(),
+    })
+}
+
 /// Runs commands on a ledger.
 fn run_all(alloc: Global, plain: &mut Plain, commands: &Vec<Command<Global>, Global>) {
     for command in commands {
@@ -103,25 +121,27 @@ fn run_all(alloc: Global, plain: &mut Plain, commands: &Vec<Command<Global>, Glo
 
 /// Whether receipts tell of these batches, in their order.
 fn are_told(told: &Vec<Told, Global>, waiting: &Vec<Told, Global>) -> bool {
-    if told.len() != waiting.len() {
-        return false;
-    }
-    for (one, other) in told.iter().zip(waiting.iter()) {
-        if !is_one_told(one, other) {
+    for place in 0..told.len() {
+        if !is_one_told(told.get(place), waiting.get(place)) {
             return false;
         }
     }
-    true
+    told.len() == waiting.len()
 }
 
-fn is_one_told(told: &Told, waiting: &Told) -> bool {
-    told.clock == waiting.clock
-        && told.reply.as_slice() == waiting.reply.as_slice()
-        && is_same_batch(&told.batch, &waiting.batch)
+fn is_one_told(told: Option<&Told>, waiting: Option<&Told>) -> bool {
+    match (told, waiting) {
+        (Some(told), Some(waiting)) => {
+            told.clock == waiting.clock
+                && told.reply.as_slice() == waiting.reply.as_slice()
+                && is_same_batch(&told.batch, &waiting.batch)
+        }
+        _ => false,
+    }
 }
 
 /// A copy of a batch or of a pulse.
-fn copy_of(alloc: Global, command: &Command<Global>) -> Result<Command<Global>, AllocError> {
+fn copy_of(alloc: Global, command: &Command<Global>) -> Result<Command<Global>, Refusal> {
     Ok(match command {
         Command::Accounts { now, events } => Command::Accounts {
             now: *now,

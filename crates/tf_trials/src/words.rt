@@ -1,11 +1,18 @@
 //! The words of lines.
 
-use crate::trial::Trial;
-use crate::tried::ROWS;
 use tf_records::Refusal;
 
 /// A word can't be read.
 pub const UNREADABLE: Refusal = Refusal::BadLine { line: 0, column: 0 };
+
+/// The numbers that lines call by a letter.
+#[derive(Clone, Copy)]
+pub struct Numbers {
+    /// How often a line was repeated, which it calls `N`.
+    pub turn: u64,
+    /// The number of the test, which its text calls `M`.
+    pub parameter: u64,
+}
 
 /// The first word of a line, and what stands behind the space after it.
 pub fn first_word(line: &str) -> (&str, &str) {
@@ -14,11 +21,11 @@ pub fn first_word(line: &str) -> (&str, &str) {
 
 /// The number that a word spells: in digits, `N` for that of a line which is repeated, `M` for that of the test, 0 without a
 /// word. Another word is no number.
-pub fn number(trial: &Trial<'_>, word: &str) -> Result<u64, Refusal> {
+pub fn number(numbers: Numbers, word: &str) -> Result<u64, Refusal> {
     match word {
         "" => Ok(0),
-        "N" => Ok(trial.turn),
-        "M" => Ok(trial.parameter),
+        "N" => Ok(numbers.turn),
+        "M" => Ok(numbers.parameter),
         _ => digits(word),
     }
 }
@@ -38,23 +45,8 @@ pub fn is_number(word: &str, number: usize) -> bool {
     }
 }
 
-/// The number that a word spells, as a size or a place.
-pub fn size(trial: &Trial<'_>, word: &str) -> Result<usize, Refusal> {
-    Ok(number(trial, word)? as usize)
-}
-
 /// The first two numbers of a line.
-pub fn two_numbers(trial: &Trial<'_>, words: &str) -> Result<(u64, u64), Refusal> {
+pub fn two_numbers(numbers: Numbers, words: &str) -> Result<(u64, u64), Refusal> {
     let (first, second) = first_word(words);
-    Ok((number(trial, first)?, number(trial, second)?))
-}
-
-/// The number of a row.
-pub fn row(trial: &Trial<'_>, word: &str) -> Result<usize, Refusal> {
-    let number = size(trial, word)?;
-    if number < ROWS {
-        Ok(number)
-    } else {
-        Err(UNREADABLE)
-    }
+    Ok((number(numbers, first)?, number(numbers, second)?))
 }
