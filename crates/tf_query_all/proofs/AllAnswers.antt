@@ -39,3 +39,9 @@ module _ {X Y E C : Type 0} (items : C → List Y) (P : X → Result Y E → Typ
   collected-fails Q fails xs rs (Ok all) each is = tt
   collected-fails Q fails xs rs (Err error) each is =
       All-contains (λ r. IfErr r Q) rs (Err error) (each-failed Q fails xs rs each) is
+
+-- a result that may be given is no other failure than those that may be given
+pub only-refuses : {Y E : Type 0} (gives : Result Y E → Type 0) (Q : E → Type 0) → ((error : E) → gives (Err error) → Q error)
+    → (r : Result Y E) → gives r → IfErr r Q
+only-refuses gives Q fails (Ok value) is = tt
+only-refuses gives Q fails (Err error) is = fails error is

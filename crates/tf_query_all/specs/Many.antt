@@ -1,5 +1,7 @@
 -- Filters of all four queries, and what they are answered.
-use Rattle.std.specs.Prelude.{◌≡◌, List}
+use Rattle.std.specs.Prelude.{◌≡◌, List, map, Ok, Result}
+use Rattle.std.specs.Borrow.{Bor}
+use Rattle.std.specs.List.{AllZip}
 use Rattle.tf_journal.specs.declared.entry.Entry.{Entry}
 use Rattle.tf_journal.specs.Answer.{account_transfers_of, found_accounts_of, found_transfers_of, history_of}
 use Rattle.tf_query_all.specs.declared.filter.Answer.{Answer}
@@ -15,3 +17,8 @@ module _ {A : Type 0} where
   IsAnswer journal (filter.Accounts asked) (answer.Accounts rows) = rows.items ≡ found_accounts_of journal asked
   IsAnswer journal (filter.Transfers asked) (answer.Transfers rows) = rows.items ≡ found_transfers_of journal asked
   IsAnswer journal _ _ = ⊥
+
+-- each question has an answer that a call with a reference to it may give
+abbrev pub AreAnswered : {Q Y E : Type 0} → (Bor Q → Result Y E → Type 0) → List Q → List Y → Type 0
+AreAnswered {Q} may_answer questions answers = (asked : List (Bor Q)) × (map (λ (question : Bor Q). question.now) asked ≡ questions)
+    × AllZip (λ question answer. may_answer question (Ok answer)) asked answers

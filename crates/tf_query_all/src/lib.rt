@@ -8,12 +8,14 @@ ghost use Rattle.std.specs.Prelude.{◌≡◌, IfErr, IfOk};
 ghost use Rattle.std.specs.List.{AllZip};
 ghost use Rattle.tf_query_all.specs.Many.{IsAnswer};
 
+mod each;
 mod filter;
 
+use crate::each::answer_each;
 use crate::filter::answered;
 pub use filter::{Answer, Filter};
-use rayon::prelude::*;
-use std::alloc::{AllocError, Allocator};
+use std::alloc::Allocator;
+use std::marker::{Send, Sync};
 use std::thread::Threads;
 use tf_query::Version;
 use tf_records::Refusal;
@@ -39,17 +41,13 @@ where
     ensures refusal { IfErr result (λ refusal. refusal ≡ Refusal.NoMemory) }
 {
     let heap = &alloc;
-    let collected: Result<Result<Vec<Answer<B>, B>, Refusal>, AllocError> = filters
-        .par_iter()
-        .map(
-            move |filter: &Filter| -> Result<Answer<B>, Refusal>
-                ensures ok { IfOk result (IsAnswer version.entry.now filter.now) }
-                ensures refusal { IfErr result (λ refusal. refusal ≡ Refusal.NoMemory) }
-            { answered(*heap, version, filter) },
-        )
-        .collect(rt, alloc);
-    match collected {
-        Ok(answers) => answers,
-        Err(_) => Err(Refusal::NoMemory),
-    }
+    answer_each(
+        rt,
+        alloc,
+        filters,
+        move |filter: &Filter| -> Result<Answer<B>, Refusal>
+            ensures ok { IfOk result (IsAnswer version.entry.now filter.now) }
+            ensures refusal { IfErr result (λ refusal. refusal ≡ Refusal.NoMemory) }
+        { answered(*heap, version, filter) },
+    )
 }
