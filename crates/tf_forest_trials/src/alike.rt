@@ -8,6 +8,24 @@ use tf_journal::Ledger;
 use tf_script::Command;
 use tf_trials::{Plain, is_same};
 
+/// Whether a forest and a plain ledger answer a command alike, and after it look-ups of what it names.
+fn is_command_alike<M: Ledger>(
+    alloc: Global,
+    plain: &mut Plain,
+    forest: &mut M,
+    command: &Command<Global>,
+) -> bool
+    requires { IsLawfulAt (M.clock forest.old) (M.journal forest.old) }
+    ensures { IsLawfulAt (M.clock forest.new) (M.journal forest.new) }
+{
+    let expected = plain.run(alloc, command);
+    let answer = run(alloc, alloc, forest, command);
+    let is_same = is_same(&answer, &expected);
+    drop(answer);
+    drop(expected);
+    is_same && is_alike(plain.ledger(), forest, command)
+}
+
 /// Whether a forest and an empty plain ledger answer each command alike. After each one look-ups of what it names are alike, and
 /// after the last those of all that was named.
 pub fn are_commands_alike<M: Ledger>(
@@ -19,9 +37,7 @@ pub fn are_commands_alike<M: Ledger>(
 {
     let mut plain = Plain::new(alloc);
     for command in commands {
-        let expected = plain.run(alloc, command);
-        let answer = run(alloc, alloc, forest, command);
-        if !(is_same(&answer, &expected) && is_alike(plain.ledger(), forest, command)) {
+        if !is_command_alike(alloc, &mut plain, forest, command) {
             return false;
         }
     }

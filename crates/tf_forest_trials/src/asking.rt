@@ -101,8 +101,10 @@ pub fn answer_of<F: Tried>(
 ) -> Tally {
     let expected = ask_plain(alloc, plain.ledger(), question);
     let asked = calls::ask(forest, place, question, &expected);
+    let rows = count_of(&expected);
+    drop(expected);
     Tally {
-        rows: count_of(&expected),
+        rows,
         is_right: matches!(asked, Asked::Expected),
     }
 }

@@ -25,6 +25,11 @@ pub fn act<F: Tried>(forest: &mut F, act: Act) -> Result<bool, Refusal> {
     }
 }
 
+/// Does something with versions or merges for which all that it needs is there. Tells whether it was done.
+pub fn does<F: Tried>(forest: &mut F, act: Act) -> bool {
+    matches!(forest.call(Call::Act(act)), Answered::Acted(Acted::Done))
+}
+
 /// How a version answers.
 pub fn ask<F: Tried>(
     forest: &mut F,

@@ -1,6 +1,6 @@
 //! What publishes and merges count, and the limit of the tables that they push.
 
-use crate::calls::{act, count, run};
+use crate::calls::{act, count, does, run};
 use crate::merges::merge_all;
 use crate::stays::batch;
 use crate::tried::{Act, Counted, Tried};
@@ -8,7 +8,7 @@ use std::alloc::Global;
 use tf_records::{Refusal, Transfer};
 use tf_script::Command;
 use tf_trials::random::{first_accounts, transfer_event};
-use tf_trials::{Answer, Dice};
+use tf_trials::{Answer, Dice, Outcome};
 
 /// Whether no row of a forest has more than 64 tables, and what was counted is within its bounds.
 fn is_within_bounds(counted: &Counted) -> bool {
@@ -36,56 +36,59 @@ fn one_transfer(alloc: Global) -> Result<Command<Global>, Refusal> {
     Ok(Command::Transfers { now: 0, events })
 }
 
-/// Runs a batch, and tells whether it was.
-fn is_run<F: Tried>(forest: &mut F, batch: &Command<Global>) -> bool {
-    matches!(run(forest, batch), Ok(Answer::Batch(_)))
+/// Whether a batch was run.
+fn is_of_batch(outcome: &Outcome) -> bool {
+    matches!(outcome, Ok(Answer::Batch(_)))
+}
+
+/// Runs a batch, where it could be made, and tells whether it was.
+fn is_run<F: Tried>(forest: &mut F, batch: Result<Command<Global>, Refusal>) -> bool {
+    let Ok(batch) = batch else {
+        return false;
+    };
+    let outcome = run(forest, &batch);
+    let is_run = is_of_batch(&outcome);
+    drop(outcome);
+    drop(batch);
+    is_run
 }
 
 /// Stores a transfer with this id in a batch of its own, and publishes it.
-fn publish_one<F: Tried>(
-    alloc: Global,
-    forest: &mut F,
-    dice: &mut Dice,
-    id: u64,
-) -> Result<bool, Refusal> {
-    let transfer = batch(alloc, dice, id, 1)?;
-    let is_run = is_run(forest, &transfer);
-    let is_published = act(forest, Act::Publish)?;
-    Ok(is_run && is_published && is_within_bounds(&count(forest)))
+fn publish_one<F: Tried>(alloc: Global, forest: &mut F, dice: &mut Dice, id: u64) -> bool {
+    is_run(forest, batch(alloc, dice, id, 1))
+        && does(forest, Act::Publish)
+        && is_within_bounds(&count(forest))
+}
+
+/// Merges all rows. Tells how many merges there were, or None where something was out of its bounds.
+fn merge_within_bounds<F: Tried>(forest: &mut F) -> Option<u32> {
+    let merges = merge_all(forest).ok()?;
+    is_within_bounds(&count(forest)).then_some(merges)
 }
 
 /// Publishes a thousand batches of one transfer, and merges all rows after each tenth. Tells how many merges there were, or None
 /// where something was out of its bounds.
-fn publish_a_thousand<F: Tried>(
-    alloc: Global,
-    forest: &mut F,
-    dice: &mut Dice,
-) -> Result<Option<u32>, Refusal> {
+fn publish_a_thousand<F: Tried>(alloc: Global, forest: &mut F, dice: &mut Dice) -> Option<u32> {
     let mut merges: u32 = 0;
     for id in 1..1001u64 {
-        if !publish_one(alloc, forest, dice, id)? {
-            return Ok(None);
+        if !publish_one(alloc, forest, dice, id) {
+            return None;
         }
         if id % 10 == 0 {
-            merges = merges.wrapping_add(merge_all(forest)?);
-            if !is_within_bounds(&count(forest)) {
-                return Ok(None);
-            }
+            merges = merges.wrapping_add(merge_within_bounds(forest)?);
         }
     }
-    Ok(Some(merges))
+    Some(merges)
 }
 
 /// Whether bounds are kept by a thousand batches of one transfer, each published, with all rows merged after each tenth.
-pub fn are_bounds_kept<F: Tried>(alloc: Global, forest: &mut F) -> Result<bool, Refusal> {
-    let accounts = first_accounts(alloc)?;
-    let is_begun = is_run(forest, &accounts);
-    let merges = publish_a_thousand(alloc, forest, &mut Dice::new(17))?;
-    Ok(
-        is_begun
-            && matches!(merges, Some(merges) if merges > 10_000)
-            && count(forest).publishes == 1000,
-    )
+pub fn are_bounds_kept<F: Tried>(alloc: Global, forest: &mut F) -> bool {
+    is_run(forest, first_accounts(alloc))
+        && matches!(
+            publish_a_thousand(alloc, forest, &mut Dice::new(17)),
+            Some(merges) if merges > 10_000
+        )
+        && count(forest).publishes == 1000
 }
 
 /// Nothing was published.
@@ -116,15 +119,9 @@ fn is_kept(limit: u32, answer: Result<bool, Refusal>, counted: &Counted) -> bool
 
 /// Whether accounts and a transfer of one with history, which need 18 tables, are published under a limit of 18. Under 17 the
 /// registry is full, and nothing has changed.
-pub fn does_limit_hold<F: Tried>(
-    alloc: Global,
-    forest: &mut F,
-    limit: u32,
-) -> Result<bool, Refusal> {
-    let accounts = first_accounts(alloc)?;
-    let transfer = one_transfer(alloc)?;
-    let is_stored = is_run(forest, &accounts) && is_run(forest, &transfer);
+pub fn does_limit_hold<F: Tried>(alloc: Global, forest: &mut F, limit: u32) -> bool {
+    let is_stored = is_run(forest, first_accounts(alloc)) && is_run(forest, one_transfer(alloc));
     let answer = act(forest, Act::Publish);
     let counted = count(forest);
-    Ok(is_stored && is_kept(limit, answer, &counted) && counted.has_first)
+    is_stored && is_kept(limit, answer, &counted) && counted.has_first
 }

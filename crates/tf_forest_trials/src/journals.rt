@@ -1,7 +1,7 @@
 //! Random journals, and random queries and look-ups of them.
 
 use crate::asking::answers_of;
-use crate::calls::act;
+use crate::calls::does;
 use crate::merges::{merge_all, merge_some};
 use crate::publishing::run_published;
 use crate::questions::questions;
@@ -12,7 +12,23 @@ use tf_script::Command;
 use tf_trials::random::commands;
 use tf_trials::{Dice, Plain};
 
-/// Runs the commands of a random journal, three at a time, with merges after each three.
+/// Runs commands, three at a time, with merges after each three.
+fn run_by_threes<F: Tried>(
+    alloc: Global,
+    plain: &mut Plain,
+    forest: &mut F,
+    dice: &mut Dice,
+    commands: &[Command<Global>],
+) -> bool {
+    for some in commands.chunks(3) {
+        if !(run_published(alloc, plain, forest, some, 0) && merge_some(forest, dice, 10).is_ok()) {
+            return false;
+        }
+    }
+    true
+}
+
+/// Runs the commands of a random journal so.
 fn run_journal<F: Tried>(
     alloc: Global,
     plain: &mut Plain,
@@ -21,13 +37,9 @@ fn run_journal<F: Tried>(
     seed: u64,
 ) -> Result<bool, Refusal> {
     let commands = commands(alloc, seed, 9)?;
-    for some in commands.as_slice().chunks(3) {
-        if !run_published(alloc, plain, forest, some, 0)? {
-            return Ok(false);
-        }
-        merge_some(forest, dice, 10)?;
-    }
-    Ok(true)
+    let is_run = run_by_threes(alloc, plain, forest, dice, commands.as_slice());
+    drop(commands);
+    Ok(is_run)
 }
 
 /// Takes a version, the last of so many and one, and asks it.
@@ -37,9 +49,8 @@ fn take_and_ask<F: Tried>(
     forest: &mut F,
     asked: &[Command<Global>],
     place: usize,
-) -> Result<bool, Refusal> {
-    let is_taken = act(forest, Act::Take)?;
-    Ok(is_taken && answers_of(alloc, forest, place, plain, asked).is_right)
+) -> bool {
+    does(forest, Act::Take) && answers_of(alloc, forest, place, plain, asked).is_right
 }
 
 /// Whether versions answer these commands as the plain ledger does, before merges, after some in any order, and after all. The
@@ -50,15 +61,14 @@ fn are_versions_right<F: Tried>(
     forest: &mut F,
     dice: &mut Dice,
     asked: &[Command<Global>],
-) -> Result<bool, Refusal> {
-    let is_taken = act(forest, Act::Take)?;
-    let before = take_and_ask(alloc, plain, forest, asked, 1)?;
-    merge_some(forest, dice, 30)?;
-    let between = take_and_ask(alloc, plain, forest, asked, 2)?;
-    let _merges = merge_all(forest)?;
-    let after = take_and_ask(alloc, plain, forest, asked, 3)?;
-    let first = answers_of(alloc, forest, 0, plain, asked).is_right;
-    Ok(is_taken && before && between && after && first)
+) -> bool {
+    does(forest, Act::Take)
+        && take_and_ask(alloc, plain, forest, asked, 1)
+        && merge_some(forest, dice, 30).is_ok()
+        && take_and_ask(alloc, plain, forest, asked, 2)
+        && merge_all(forest).is_ok()
+        && take_and_ask(alloc, plain, forest, asked, 3)
+        && answers_of(alloc, forest, 0, plain, asked).is_right
 }
 
 /// Whether versions of a random journal answer random queries and look-ups as the plain ledger does.
@@ -69,7 +79,11 @@ pub fn is_journal_answered<F: Tried>(
     seed: u64,
 ) -> Result<bool, Refusal> {
     let mut dice = Dice::new(seed.wrapping_add(1 << 40));
-    let is_run = run_journal(alloc, plain, forest, &mut dice, seed)?;
+    if !run_journal(alloc, plain, forest, &mut dice, seed)? {
+        return Ok(false);
+    }
     let asked = questions(alloc, &mut dice, plain.ledger(), 32)?;
-    Ok(is_run && are_versions_right(alloc, plain, forest, &mut dice, asked.as_slice())?)
+    let are_right = are_versions_right(alloc, plain, forest, &mut dice, asked.as_slice());
+    drop(asked);
+    Ok(are_right)
 }

@@ -1,7 +1,7 @@
 //! A version of which many queries are asked at once.
 
-use crate::calls::act;
-use crate::publishing::run_published;
+use crate::calls::does;
+use crate::publishing::run_list;
 use crate::questions::any_query;
 use crate::tried::{Act, Tried};
 use std::alloc::Global;
@@ -32,8 +32,8 @@ pub fn take_for_many<F: Tried>(
     plain: &mut Plain,
     forest: &mut F,
 ) -> Result<Vec<Query, Global>, Refusal> {
-    let commands = commands(alloc, 4096, 60)?;
-    if run_published(alloc, plain, forest, commands.as_slice(), 0)? && act(forest, Act::Take)? {
+    let journal = commands(alloc, 4096, 60);
+    if run_list(alloc, plain, forest, journal)? && does(forest, Act::Take) {
         queries(alloc, plain.ledger(), 5000)
     } else {
         Err(Refusal::Stale)

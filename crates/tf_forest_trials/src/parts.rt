@@ -1,8 +1,8 @@
 //! Answers about as long as the parts, of 256 timestamps, in which queries read a scan.
 
 use crate::asking::answer_of;
-use crate::calls::act;
-use crate::publishing::run_published;
+use crate::calls::does;
+use crate::publishing::run_list;
 use crate::tried::{Act, Tried};
 use std::alloc::Global;
 use tf_records::{AccountFilter, QueryFilter, Refusal, Transfer};
@@ -105,27 +105,31 @@ fn of_all(span: Span, code: u16) -> QueryFilter {
     }
 }
 
-/// A union, the same with balances, all records and a field alone.
-fn questions(span: Span) -> [Command<Global>; 4] {
-    [
-        Command::Query(Query::AccountTransfers(of_account(span))),
-        Command::Query(Query::AccountBalances(of_account(span))),
-        Command::Query(Query::Transfers(of_all(span, 0))),
-        Command::Query(Query::Transfers(of_all(span, 1))),
-    ]
+/// How many rows a version answers a query with, where it is as the plain ledger answers.
+fn rows_of<F: Tried>(alloc: Global, plain: &Plain, forest: &mut F, query: Query) -> Option<usize> {
+    let tally = answer_of(alloc, forest, 0, plain, &Command::Query(query));
+    tally.is_right.then_some(tally.rows)
 }
 
-/// Whether a version answers all four as the plain ledger does, with as many rows each, some and no more than are asked for.
+/// Whether a version answers a union, the same with balances, all records and a field alone as the plain ledger does, with as
+/// many rows each, some and no more than are asked for.
 fn is_span_answered<F: Tried>(alloc: Global, plain: &Plain, forest: &mut F, span: Span) -> bool {
-    let questions = questions(span);
-    let rows = answer_of(alloc, forest, 0, plain, &questions[0]).rows;
-    for question in &questions {
-        let tally = answer_of(alloc, forest, 0, plain, question);
-        if !tally.is_right || tally.rows != rows {
-            return false;
-        }
-    }
-    rows > 0 && rows <= span.limit as usize
+    let Some(rows) = rows_of(
+        alloc,
+        plain,
+        forest,
+        Query::AccountTransfers(of_account(span)),
+    ) else {
+        return false;
+    };
+    let balances = Query::AccountBalances(of_account(span));
+    let all = Query::Transfers(of_all(span, 0));
+    let field = Query::Transfers(of_all(span, 1));
+    rows > 0
+        && rows <= span.limit as usize
+        && rows_of(alloc, plain, forest, balances) == Some(rows)
+        && rows_of(alloc, plain, forest, all) == Some(rows)
+        && rows_of(alloc, plain, forest, field) == Some(rows)
 }
 
 /// The same with each limit between two moments, in both directions.
@@ -172,10 +176,9 @@ pub fn are_parts_answered<F: Tried>(
     plain: &mut Plain,
     forest: &mut F,
 ) -> Result<bool, Refusal> {
-    let commands = commands(alloc)?;
     Ok(
-        run_published(alloc, plain, forest, commands.as_slice(), 0)?
-            && act(forest, Act::Take)?
+        run_list(alloc, plain, forest, commands(alloc))?
+            && does(forest, Act::Take)
             && are_bounds_answered(alloc, plain, forest),
     )
 }

@@ -1,28 +1,41 @@
 //! Forests that are published after each command.
 
 use crate::asking::answer_of;
-use crate::calls::{act, run};
+use crate::calls::{does, run};
 use crate::tried::{Act, Tried};
 use std::alloc::Global;
 use tf_records::Refusal;
 use tf_script::Command;
 use tf_trials::{Plain, is_same};
 
+/// Whether a forest and the plain ledger answer a command alike.
+fn is_run_alike<F: Tried>(
+    alloc: Global,
+    plain: &mut Plain,
+    forest: &mut F,
+    command: &Command<Global>,
+) -> bool {
+    let expected = plain.run(alloc, command);
+    let outcome = run(forest, command);
+    let is_alike = is_same(&outcome, &expected);
+    drop(outcome);
+    drop(expected);
+    is_alike
+}
+
 /// Runs a command on a forest of which so many versions are kept, and on the plain ledger. Then the forest is published, and
 /// where the command asks for rows, a version, which is let go at once, is asked. Tells whether both answer alike.
-fn run_one<F: Tried>(
+pub fn run_one<F: Tried>(
     alloc: Global,
     plain: &mut Plain,
     forest: &mut F,
     command: &Command<Global>,
     kept: usize,
-) -> Result<bool, Refusal> {
-    let expected = plain.run(alloc, command);
-    let is_run = is_same(&run(forest, command), &expected);
-    let is_taken = act(forest, Act::Take)?;
-    let is_answered = answer_of(alloc, forest, kept, plain, command).is_right;
-    let is_let_go = act(forest, Act::LetGo)?;
-    Ok(is_run && is_taken && is_answered && is_let_go)
+) -> bool {
+    is_run_alike(alloc, plain, forest, command)
+        && does(forest, Act::Take)
+        && answer_of(alloc, forest, kept, plain, command).is_right
+        && does(forest, Act::LetGo)
 }
 
 /// The same with several commands.
@@ -32,11 +45,24 @@ pub fn run_published<F: Tried>(
     forest: &mut F,
     commands: &[Command<Global>],
     kept: usize,
-) -> Result<bool, Refusal> {
+) -> bool {
     for command in commands {
-        if !run_one(alloc, plain, forest, command, kept)? {
-            return Ok(false);
+        if !run_one(alloc, plain, forest, command, kept) {
+            return false;
         }
     }
-    Ok(true)
+    true
+}
+
+/// The same with commands that are let go then, of a forest of which no version is kept.
+pub fn run_list<F: Tried>(
+    alloc: Global,
+    plain: &mut Plain,
+    forest: &mut F,
+    commands: Result<Vec<Command<Global>, Global>, Refusal>,
+) -> Result<bool, Refusal> {
+    let commands = commands?;
+    let is_answered = run_published(alloc, plain, forest, commands.as_slice(), 0);
+    drop(commands);
+    Ok(is_answered)
 }

@@ -1,48 +1,39 @@
 //! Requests for memory that are refused to queries and look-ups, each in turn.
 
 use crate::asking::{Outcome, ask_plain, count_of};
-use crate::calls::{act, ask, ask_on};
-use crate::publishing::run_published;
+use crate::calls::{ask, ask_on, does};
+use crate::publishing::run_list;
 use crate::refused::AMPLE;
 use crate::tried::{Act, Asked, Tried};
 use linked_list_allocator::LocalHeap;
 use std::alloc::{AllocError, Global};
-use tf_records::{AccountFilter, QueryFilter, Refusal};
-use tf_script::{Command, Query};
+use tf_records::Refusal;
+use tf_script::{Command, parse};
 use tf_trials::random::commands;
 use tf_trials::{Plain, take_all_but};
 
-/// A filter of the transfers of an account with history, on both sides and by two fields.
-fn of_account(limit: u32) -> AccountFilter {
-    AccountFilter {
-        account_id: 3,
-        user_data_128: 0,
-        user_data_64: 0,
-        user_data_32: 7,
-        code: 1,
-        reserved: [0; 58],
-        timestamp_min: 0,
-        timestamp_max: 0,
-        limit,
-        flags: AccountFilter::DEBITS | AccountFilter::CREDITS | AccountFilter::REVERSED,
-    }
-}
+/// How many bytes more are free at each further try.
+const STEP: usize = 16;
 
-/// A filter by three fields.
-fn of_all(user_data_32: u32, code: u16, limit: u32) -> QueryFilter {
-    QueryFilter {
-        user_data_128: 0,
-        user_data_64: 0,
-        user_data_32,
-        ledger: 1,
-        code,
-        reserved: [0; 6],
-        timestamp_min: 0,
-        timestamp_max: 0,
-        limit,
-        flags: 0,
-    }
-}
+/// The same for a look-up of as many ids as it may have: room for 8,190 rows of 128 bytes after eight tries.
+const LONG_STEP: usize = 8190 * 128 / 8;
+
+/// Each query with a limit, of an account with history on both sides and by two fields, or by three fields; and each look-up of
+/// 20 ids.
+const VALID: &str = "\
+     get_account_transfers account_id=3 user_data_32=7 code=1 limit=20 flags=debits|credits|reversed\n\
+     get_account_balances account_id=3 user_data_32=7 code=1 limit=20 flags=debits|credits|reversed\n\
+     query_accounts user_data_32=3 ledger=1 code=10 limit=20\n\
+     query_transfers user_data_32=7 ledger=1 code=1 limit=20\n\
+     lookup_accounts 1 2 3 4 5 6 1 2 3 4 5 6 1 2 3 4 5 6 1 2\n\
+     lookup_transfers 1 2 3 4 5 6 1 2 3 4 5 6 1 2 3 4 5 6 1 2\n";
+
+/// The same queries with no limit, which is invalid.
+const INVALID: &str = "\
+     get_account_transfers account_id=3 user_data_32=7 code=1 flags=debits|credits|reversed\n\
+     get_account_balances account_id=3 user_data_32=7 code=1 flags=debits|credits|reversed\n\
+     query_accounts user_data_32=3 ledger=1 code=10\n\
+     query_transfers user_data_32=7 ledger=1 code=1\n";
 
 /// So many ids, from 1 to 6.
 fn ids(alloc: Global, count: u32) -> Result<Vec<u128, Global>, AllocError> {
@@ -51,53 +42,6 @@ fn ids(alloc: Global, count: u32) -> Result<Vec<u128, Global>, AllocError> {
         ids.push(u128::from(before % 6) + 1)?;
     }
     Ok(ids)
-}
-
-/// A query or a look-up, how many bytes more are free at each further try, and whether it takes memory.
-type Case = (Command<Global>, usize, bool);
-
-/// Each query with a limit and with none, which is invalid.
-fn query_cases() -> [Case; 8] {
-    [
-        (
-            Command::Query(Query::AccountTransfers(of_account(20))),
-            16,
-            true,
-        ),
-        (
-            Command::Query(Query::AccountTransfers(of_account(0))),
-            16,
-            false,
-        ),
-        (
-            Command::Query(Query::AccountBalances(of_account(20))),
-            16,
-            true,
-        ),
-        (
-            Command::Query(Query::AccountBalances(of_account(0))),
-            16,
-            false,
-        ),
-        (Command::Query(Query::Accounts(of_all(3, 10, 20))), 16, true),
-        (Command::Query(Query::Accounts(of_all(3, 10, 0))), 16, false),
-        (Command::Query(Query::Transfers(of_all(7, 1, 20))), 16, true),
-        (Command::Query(Query::Transfers(of_all(7, 1, 0))), 16, false),
-    ]
-}
-
-/// Each look-up of a few ids, of as many as it may have, and of one more.
-fn look_up_cases(alloc: Global) -> Result<[Case; 6], AllocError> {
-    // Room for 8,190 rows of 128 bytes after eight tries.
-    let eighth = 8190 * 128 / 8;
-    Ok([
-        (Command::LookupAccounts(ids(alloc, 20)?), 16, true),
-        (Command::LookupAccounts(ids(alloc, 8190)?), eighth, true),
-        (Command::LookupAccounts(ids(alloc, 8191)?), 16, false),
-        (Command::LookupTransfers(ids(alloc, 20)?), 16, true),
-        (Command::LookupTransfers(ids(alloc, 8190)?), eighth, true),
-        (Command::LookupTransfers(ids(alloc, 8191)?), 16, false),
-    ])
 }
 
 /// Asks a version on a heap with a hole of so many bytes.
@@ -140,36 +84,116 @@ fn refusals<F: Tried>(
     Ok(None)
 }
 
-/// Whether a case is refused in turn where it takes memory, and else never, and is answered as the plain ledger does.
-fn is_case_right<F: Tried>(
+/// Whether a query or a look-up is refused in turn on a heap where it takes memory, and else never, and is answered as the plain
+/// ledger does.
+fn is_right_on<F: Tried>(
     alloc: Global,
+    heap: &LocalHeap,
     plain: &Plain,
     forest: &mut F,
-    case: &Case,
-) -> Result<bool, AllocError> {
-    let (question, step, takes_memory) = case;
-    let heap = LocalHeap::new(alloc, AMPLE)?;
+    question: &Command<Global>,
+    step: usize,
+    takes_memory: bool,
+) -> bool {
     let expected = ask_plain(alloc, plain.ledger(), question);
     let has_rows = count_of(&expected) > 0;
-    let refused = refusals(alloc, &heap, forest, question, &expected, *step)?;
-    Ok(
-        has_rows == *takes_memory
-            && matches!(refused, Some(refused) if (refused > 0) == *takes_memory),
-    )
+    let refused = refusals(alloc, heap, forest, question, &expected, step);
+    drop(expected);
+    has_rows == takes_memory
+        && matches!(refused, Ok(Some(refused)) if (refused > 0) == takes_memory)
 }
 
-fn are_cases_right<F: Tried>(
+/// The same on a heap of its own.
+fn is_right<F: Tried>(
     alloc: Global,
     plain: &Plain,
     forest: &mut F,
-    cases: &[Case],
-) -> Result<bool, AllocError> {
-    for case in cases {
-        if !is_case_right(alloc, plain, forest, case)? {
-            return Ok(false);
+    question: &Command<Global>,
+    step: usize,
+    takes_memory: bool,
+) -> bool {
+    let Ok(heap) = LocalHeap::new(alloc, AMPLE) else {
+        return false;
+    };
+    let is_right = is_right_on(alloc, &heap, plain, forest, question, step, takes_memory);
+    drop(heap);
+    is_right
+}
+
+/// The same with several.
+fn are_right<F: Tried>(
+    alloc: Global,
+    plain: &Plain,
+    forest: &mut F,
+    questions: &[Command<Global>],
+    takes_memory: bool,
+) -> bool {
+    for question in questions {
+        if !is_right(alloc, plain, forest, question, STEP, takes_memory) {
+            return false;
         }
     }
-    Ok(true)
+    true
+}
+
+/// The same with those of a text.
+fn is_text_right<F: Tried>(
+    alloc: Global,
+    plain: &Plain,
+    forest: &mut F,
+    text: &str,
+    takes_memory: bool,
+) -> bool {
+    let Ok(questions) = parse(alloc, text.as_bytes()) else {
+        return false;
+    };
+    let are_right = are_right(alloc, plain, forest, questions.as_slice(), takes_memory);
+    drop(questions);
+    are_right
+}
+
+/// The same with a look-up of so many accounts.
+fn are_accounts_right<F: Tried>(
+    alloc: Global,
+    plain: &Plain,
+    forest: &mut F,
+    count: u32,
+    step: usize,
+    takes_memory: bool,
+) -> bool {
+    let Ok(ids) = ids(alloc, count) else {
+        return false;
+    };
+    let question = Command::LookupAccounts(ids);
+    let is_right = is_right(alloc, plain, forest, &question, step, takes_memory);
+    drop(question);
+    is_right
+}
+
+/// The same with a look-up of so many transfers.
+fn are_transfers_right<F: Tried>(
+    alloc: Global,
+    plain: &Plain,
+    forest: &mut F,
+    count: u32,
+    step: usize,
+    takes_memory: bool,
+) -> bool {
+    let Ok(ids) = ids(alloc, count) else {
+        return false;
+    };
+    let question = Command::LookupTransfers(ids);
+    let is_right = is_right(alloc, plain, forest, &question, step, takes_memory);
+    drop(question);
+    is_right
+}
+
+/// Whether look-ups of as many ids as they may have, and of one more, are right so.
+fn are_long_right<F: Tried>(alloc: Global, plain: &Plain, forest: &mut F) -> bool {
+    are_accounts_right(alloc, plain, forest, 8190, LONG_STEP, true)
+        && are_accounts_right(alloc, plain, forest, 8191, STEP, false)
+        && are_transfers_right(alloc, plain, forest, 8190, LONG_STEP, true)
+        && are_transfers_right(alloc, plain, forest, 8191, STEP, false)
 }
 
 /// Whether a version of a random journal answers as before when it is refused memory in turn for each query and look-up.
@@ -178,11 +202,12 @@ pub fn are_refusals_right<F: Tried>(
     plain: &mut Plain,
     forest: &mut F,
 ) -> Result<bool, Refusal> {
-    let commands = commands(alloc, 5, 30)?;
+    let is_run = run_list(alloc, plain, forest, commands(alloc, 5, 30))?;
     Ok(
-        run_published(alloc, plain, forest, commands.as_slice(), 0)?
-            && act(forest, Act::Take)?
-            && are_cases_right(alloc, plain, forest, &query_cases())?
-            && are_cases_right(alloc, plain, forest, &look_up_cases(alloc)?)?,
+        is_run
+            && does(forest, Act::Take)
+            && is_text_right(alloc, plain, forest, VALID, true)
+            && is_text_right(alloc, plain, forest, INVALID, false)
+            && are_long_right(alloc, plain, forest),
     )
 }

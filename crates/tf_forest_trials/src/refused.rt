@@ -3,6 +3,7 @@ ghost use Rattle.tf_journal.specs.Lawful.{IsLawfulAt};
 
 use crate::ledgers::run;
 use crate::look_ups::{are_all_alike, is_alike};
+use crate::tried::Asked;
 use linked_list_allocator::LocalHeap;
 use std::alloc::{AllocError, Global};
 use tf_journal::Ledger;
@@ -34,6 +35,41 @@ fn run_in_room<M: Ledger>(
     Ok(outcome)
 }
 
+/// How a forest answers a command, where the plain ledger, which runs it where the forest isn't refused memory, answers so.
+fn compared(
+    alloc: Global,
+    plain: &mut Plain,
+    command: &Command<Global>,
+    outcome: &Outcome,
+) -> Asked {
+    if matches!(outcome, Err(Refusal::NoMemory)) {
+        return Asked::NoMemory;
+    }
+    if is_same(outcome, &plain.run(alloc, command)) {
+        Asked::Expected
+    } else {
+        Asked::Wrong
+    }
+}
+
+/// The same with so much room.
+fn answered_in_room<M: Ledger>(
+    alloc: Global,
+    heap: &LocalHeap,
+    plain: &mut Plain,
+    forest: &mut M,
+    command: &Command<Global>,
+    room: usize,
+) -> Result<Asked, AllocError>
+    requires { IsLawfulAt (M.clock forest.old) (M.journal forest.old) }
+    ensures { IsLawfulAt (M.clock forest.new) (M.journal forest.new) }
+{
+    let outcome = run_in_room(alloc, heap, forest, command, room)?;
+    let asked = compared(alloc, plain, command, &outcome);
+    drop(outcome);
+    Ok(asked)
+}
+
 /// Runs a command on a forest, whose heap has hardly any room at first and then more and more, until it isn't refused any more.
 /// After each refusal all look-ups are those of the plain ledger, which didn't run it. Tells how often it was refused, or None
 /// where a look-up or the answer is another one.
@@ -48,10 +84,10 @@ fn refusals<M: Ledger>(
     ensures { IsLawfulAt (M.clock forest.new) (M.journal forest.new) }
 {
     for refused in 0..AMPLE / STEP {
-        let outcome = run_in_room(alloc, heap, forest, command, refused * STEP)?;
-        if !matches!(outcome, Err(Refusal::NoMemory)) {
-            let expected = plain.run(alloc, command);
-            return Ok(is_same(&outcome, &expected).then_some(refused));
+        match answered_in_room(alloc, heap, plain, forest, command, refused * STEP)? {
+            Asked::NoMemory => {}
+            Asked::Expected => return Ok(Some(refused)),
+            Asked::Wrong => return Ok(None),
         }
         if !is_alike(plain.ledger(), forest, command) {
             return Ok(None);

@@ -1,8 +1,8 @@
 //! Worked scripts and random commands, which a forest answers, and queries and look-ups of scripts, which versions answer.
 
-use crate::publishing::run_published;
+use crate::publishing::run_list;
 use crate::tried::Tried;
-use crate::worked::WORKED;
+use crate::worked::{script_at, scripts};
 use std::alloc::Global;
 use tf_records::Refusal;
 use tf_script::{Command, parse};
@@ -11,14 +11,14 @@ use tf_trials::random::commands;
 
 /// How many lists of commands there are: those of all worked scripts, and 100 random ones.
 pub fn lists_of_commands() -> usize {
-    WORKED.len().saturating_add(100)
+    scripts().saturating_add(100)
 }
 
 /// The list of commands at a place: those of a worked script, or 20 random ones.
 pub fn commands_at(alloc: Global, place: usize) -> Result<Vec<Command<Global>, Global>, Refusal> {
-    match WORKED.get(place) {
+    match script_at(place) {
         Some(script) => parse(alloc, script.as_bytes()),
-        None => commands(alloc, place.saturating_sub(WORKED.len()) as u64, 20),
+        None => commands(alloc, place.saturating_sub(scripts()) as u64, 20),
     }
 }
 
@@ -29,11 +29,8 @@ pub fn is_script_answered<F: Tried>(
     forest: &mut F,
     place: usize,
 ) -> Result<bool, Refusal> {
-    match WORKED.get(place) {
-        Some(script) => {
-            let commands = parse(alloc, script.as_bytes())?;
-            run_published(alloc, plain, forest, commands.as_slice(), 0)
-        }
+    match script_at(place) {
+        Some(script) => run_list(alloc, plain, forest, parse(alloc, script.as_bytes())),
         None => Ok(false),
     }
 }

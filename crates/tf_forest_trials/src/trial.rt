@@ -7,7 +7,7 @@ use crate::refusals::are_refusals_right;
 use crate::scripts::is_script_answered;
 use crate::stays::does_version_stay;
 use crate::tried::Tried;
-use crate::worked::WORKED;
+use crate::worked::scripts;
 use std::alloc::Global;
 use tf_records::Refusal;
 use tf_trials::Plain;
@@ -47,7 +47,7 @@ impl Course {
     pub fn turns(self) -> usize {
         match self {
             Course::Once(_) => 1,
-            Course::Scripts => WORKED.len(),
+            Course::Scripts => scripts(),
             Course::Journals => 2000,
         }
     }
@@ -84,8 +84,8 @@ fn is_right<F: Tried>(
         Trial::Journal(seed) => is_journal_answered(alloc, plain, forest, seed),
         Trial::Parts => are_parts_answered(alloc, plain, forest),
         Trial::Refusals => are_refusals_right(alloc, plain, forest),
-        Trial::Bounds => are_bounds_kept(alloc, forest),
-        Trial::Limit(limit) => does_limit_hold(alloc, forest, limit),
+        Trial::Bounds => Ok(are_bounds_kept(alloc, forest)),
+        Trial::Limit(limit) => Ok(does_limit_hold(alloc, forest, limit)),
     }
 }
 

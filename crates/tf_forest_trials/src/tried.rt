@@ -51,14 +51,14 @@ impl Counted {
     };
 }
 
-/// How a version answered.
+/// How a version, or a forest whose heap has little room, answered.
 #[derive(Clone, Copy)]
 pub enum Asked {
     /// It was refused memory.
     NoMemory,
     /// As was expected.
     Expected,
-    /// Otherwise, or it isn't there.
+    /// Otherwise, or the version isn't there.
     Wrong,
 }
 

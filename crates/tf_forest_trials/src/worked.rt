@@ -1,15 +1,15 @@
 //! Worked scripts, by their names. What they print is asked of `tf_worked`.
 
-/// All of them.
-pub const WORKED: [&str; 44] = [
+/// All of them, with `%` between two.
+const WORKED: &str = concat!(
     // Batches, chains and ids.
 
     // batch-without-events
     "# A batch without events moves the clock to its moment and says so.\n\
      accounts 1000\n\
-     end\n",
+     end\n%",
     // empty-script
-    "",
+    "%",
     // one-transfer
     "# Two accounts and one transfer between them, which a query then shows.\n\
      accounts 1000\n\
@@ -19,7 +19,7 @@ pub const WORKED: [&str; 44] = [
      transfers 1000\n\
      + id=5 debit_account_id=1 credit_account_id=2 amount=30 ledger=700 code=1\n\
      end\n\
-     get_account_transfers account_id=1 limit=10 flags=debits|credits\n",
+     get_account_transfers account_id=1 limit=10 flags=debits|credits\n%",
     // repeated-transfer-id
     "# A transfer sent again exists; with another amount its id exists with a different amount.\n\
      accounts 1000\n\
@@ -35,7 +35,7 @@ pub const WORKED: [&str; 44] = [
      end\n\
      transfers 0\n\
      + id=5 debit_account_id=1 credit_account_id=2 amount=31 ledger=700 code=1\n\
-     end\n",
+     end\n%",
     // amount-at-the-greatest-sum
     "# The greatest amount fits an empty account once; one more overflows its posted debits.\n\
      accounts 1000\n\
@@ -47,7 +47,7 @@ pub const WORKED: [&str; 44] = [
      end\n\
      transfers 0\n\
      + id=44 debit_account_id=1 credit_account_id=2 amount=1 ledger=700 code=1\n\
-     end\n",
+     end\n%",
     // clock-at-its-end
     "# At the end of the clock a batch of two is refused and changes nothing, so a batch of one still fits.\n\
      accounts 9223372036854775806\n\
@@ -58,7 +58,7 @@ pub const WORKED: [&str; 44] = [
      end\n\
      accounts 0\n\
      + id=1 ledger=700 code=10\n\
-     end\n",
+     end\n%",
     // linked-chain-fails-whole
     "# One failing event of a chain fails the whole chain; the event after the chain stands.\n\
      accounts 1000\n\
@@ -71,7 +71,7 @@ pub const WORKED: [&str; 44] = [
      + id=12 debit_account_id=1 credit_account_id=2 amount=31 ledger=700 code=1\n\
      + id=13 debit_account_id=2 credit_account_id=1 amount=7 ledger=700 code=1\n\
      end\n\
-     query_transfers ledger=700 limit=10\n",
+     query_transfers ledger=700 limit=10\n%",
     // open-chain
     "# A batch that ends inside a chain stores none of it; an earlier fault of the chain keeps its own result.\n\
      accounts 1000\n\
@@ -85,7 +85,7 @@ pub const WORKED: [&str; 44] = [
      transfers 0\n\
      + id=14 debit_account_id=1 credit_account_id=2 amount=1 ledger=701 code=1 flags=linked\n\
      + id=15 debit_account_id=1 credit_account_id=2 amount=1 ledger=700 code=1 flags=linked\n\
-     end\n",
+     end\n%",
     // failed-id-stays-failed
     "# A transfer that failed for want of its credit account keeps its id failed, whatever is sent under it later.\n\
      accounts 1000\n\
@@ -98,7 +98,7 @@ pub const WORKED: [&str; 44] = [
      transfers 0\n\
      + id=80 debit_account_id=1 credit_account_id=2 amount=5 ledger=700 code=1\n\
      end\n\
-     lookup_transfers 80\n",
+     lookup_transfers 80\n%",
     // failed-id-in-chain-stays-failed
     "# Of a failed chain the id of the event with its own passing fault stays failed; the others may be sent again.\n\
      accounts 1000\n\
@@ -115,7 +115,7 @@ pub const WORKED: [&str; 44] = [
      transfers 0\n\
      + id=12 debit_account_id=2 credit_account_id=1 amount=1 ledger=700 code=1\n\
      + id=10 debit_account_id=2 credit_account_id=1 amount=50 ledger=700 code=1\n\
-     end\n",
+     end\n%",
     // raw-stored-record-sent-back
     "# The bytes of a stored transfer, sent as an event, are refused because their timestamp is set.\n\
      accounts 1000\n\
@@ -124,7 +124,7 @@ pub const WORKED: [&str; 44] = [
      end\n\
      transfers 0\n\
      raw 0500000000000000000000000000000001000000000000000000000000000000020000000000000000000000000000001e000000000000000000000000000000000000000000000000000000000000000000000000000000000000000000000000000000000000000000000000000000bc02000001000000eb03000000000000\n\
-     end\n",
+     end\n%",
 
     // Pending transfers, pulses and closed accounts.
 
@@ -141,7 +141,7 @@ pub const WORKED: [&str; 44] = [
      + id=23 debit_account_id=1 credit_account_id=2 amount=60 ledger=700 code=1 flags=pending\n\
      + id=24 debit_account_id=1 credit_account_id=2 amount=1 ledger=700 code=1 flags=pending\n\
      end\n\
-     lookup_accounts 1\n",
+     lookup_accounts 1\n%",
     // post-and-void-amounts
     "# A post of the greatest amount posts all, a post of nothing posts nothing, a void of part and a post of more are refused.\n\
      accounts 1000\n\
@@ -158,7 +158,7 @@ pub const WORKED: [&str; 44] = [
      + id=37 pending_id=33 flags=post_pending_transfer amount=101\n\
      end\n\
      lookup_transfers 34 35\n\
-     lookup_accounts 1\n",
+     lookup_accounts 1\n%",
     // repeated-post-and-void-ids
     "# A post sent again exists, its defaults filled in; with another amount it differs there; a void under a pending transfer's id differs in its flags.\n\
      accounts 1000\n\
@@ -178,7 +178,7 @@ pub const WORKED: [&str; 44] = [
      + id=34 pending_id=31 flags=post_pending_transfer amount=max\n\
      + id=34 pending_id=31 flags=post_pending_transfer amount=99\n\
      + id=31 pending_id=33 flags=void_pending_transfer\n\
-     end\n",
+     end\n%",
     // post-just-before-expiry
     "# A post one nanosecond before its pending transfer expires is accepted.\n\
      accounts 1000\n\
@@ -190,7 +190,7 @@ pub const WORKED: [&str; 44] = [
      end\n\
      transfers 1000001001\n\
      + id=46 pending_id=40 flags=post_pending_transfer amount=max\n\
-     end\n",
+     end\n%",
     // post-at-expiry-then-pulse
     "# A post at the moment of expiry is refused though the amount is still pending; a pulse then takes it off.\n\
      accounts 1000\n\
@@ -205,7 +205,7 @@ pub const WORKED: [&str; 44] = [
      end\n\
      lookup_accounts 1\n\
      pulse 0 10\n\
-     lookup_accounts 1\n",
+     lookup_accounts 1\n%",
     // expiry-order-of-equal-moments
     "# Two pending transfers that expire at the same moment expire one by one, the older first.\n\
      accounts 1000\n\
@@ -220,7 +220,7 @@ pub const WORKED: [&str; 44] = [
      end\n\
      pulse 2000001003 1\n\
      pulse 0 1\n\
-     pulse 0 1\n",
+     pulse 0 1\n%",
     // expiry-order-of-equal-moments-shown
     "# As expiry-order-of-equal-moments with amounts 1 and 2, so that the sums show which one expired first.\n\
      accounts 1000\n\
@@ -237,7 +237,7 @@ pub const WORKED: [&str; 44] = [
      lookup_accounts 1\n\
      pulse 0 1\n\
      lookup_accounts 1\n\
-     pulse 0 1\n",
+     pulse 0 1\n%",
     // pulse-at-the-clock-limit
     "# A pulse at the last moment that would expire one is refused; one that expires none sets the clock there.\n\
      accounts 1000\n\
@@ -249,7 +249,7 @@ pub const WORKED: [&str; 44] = [
      end\n\
      pulse 0 0\n\
      pulse 9223372036854775807 5\n\
-     pulse 9223372036854775807 0\n",
+     pulse 9223372036854775807 0\n%",
     // closing-transfer-closes-account
     "# An open closing transfer closes its debit account on both sides; voiding it opens the account again.\n\
      accounts 1000\n\
@@ -262,7 +262,7 @@ pub const WORKED: [&str; 44] = [
      + id=72 debit_account_id=2 credit_account_id=1 amount=1 ledger=700 code=1\n\
      + id=73 pending_id=70 flags=void_pending_transfer\n\
      + id=74 debit_account_id=1 credit_account_id=2 amount=1 ledger=700 code=1\n\
-     end\n",
+     end\n%",
     // closed-account-refuses-post
     "# A closed account shows its closed flag, refuses the post of the transfer that closed it, and its event sent again differs in its flags.\n\
      accounts 1000\n\
@@ -278,7 +278,7 @@ pub const WORKED: [&str; 44] = [
      end\n\
      accounts 0\n\
      + id=1 ledger=700 code=10\n\
-     end\n",
+     end\n%",
     // closing-flag-needs-pending
     "# A transfer with a closing flag that isn't pending is refused.\n\
      accounts 1000\n\
@@ -287,7 +287,7 @@ pub const WORKED: [&str; 44] = [
      end\n\
      transfers 0\n\
      + id=76 debit_account_id=1 credit_account_id=2 amount=1 ledger=700 code=1 flags=closing_debit\n\
-     end\n",
+     end\n%",
     // expiry-opens-closed-account
     "# When a closing transfer expires, its account is open again.\n\
      accounts 1000\n\
@@ -299,7 +299,7 @@ pub const WORKED: [&str; 44] = [
      end\n\
      lookup_accounts 1\n\
      pulse 1000001003 1\n\
-     lookup_accounts 1\n",
+     lookup_accounts 1\n%",
 
     // Queries and look-ups.
 
@@ -317,7 +317,7 @@ pub const WORKED: [&str; 44] = [
      + id=65 debit_account_id=2 credit_account_id=1 amount=1 ledger=700 code=1\n\
      end\n\
      get_account_transfers account_id=1 code=1 timestamp_min=1003 timestamp_max=1007 limit=2 flags=debits|credits|reversed\n\
-     get_account_transfers account_id=1 code=1 timestamp_min=1003 timestamp_max=1007 limit=2 flags=debits|credits\n",
+     get_account_transfers account_id=1 code=1 timestamp_min=1003 timestamp_max=1007 limit=2 flags=debits|credits\n%",
     // invalid-account-filters
     "# Four filters that aren't valid have empty answers: limit 0, bounds the wrong way round, an unknown flag, the greatest account id.\n\
      accounts 1000\n\
@@ -334,7 +334,7 @@ pub const WORKED: [&str; 44] = [
      get_account_transfers account_id=1 limit=0 flags=debits|credits\n\
      get_account_transfers account_id=1 timestamp_min=5 timestamp_max=4 limit=10 flags=debits|credits\n\
      get_account_transfers account_id=1 limit=10 flags=15\n\
-     get_account_transfers account_id=max limit=10 flags=debits|credits\n",
+     get_account_transfers account_id=max limit=10 flags=debits|credits\n%",
     // lookup-repeats-and-query-accounts
     "# A lookup gives an id asked twice twice and passes over one that isn't there; a query by ledger gives both accounts.\n\
      accounts 1000\n\
@@ -342,7 +342,7 @@ pub const WORKED: [&str; 44] = [
      + id=2 ledger=700 code=10\n\
      end\n\
      lookup_accounts 2 9 2\n\
-     query_accounts ledger=700 limit=10\n",
+     query_accounts ledger=700 limit=10\n%",
     // history-balances-around-expiry
     "# An account with history shows its sums after each transfer; an expiry has no row, the next row shows its effect.\n\
      accounts 1000\n\
@@ -358,7 +358,7 @@ pub const WORKED: [&str; 44] = [
      + id=52 pending_id=51 flags=post_pending_transfer amount=max\n\
      end\n\
      get_account_balances account_id=1 limit=10 flags=debits|credits\n\
-     get_account_balances account_id=2 limit=10 flags=debits|credits\n",
+     get_account_balances account_id=2 limit=10 flags=debits|credits\n%",
     // raw-query-filter
     "# A filter given as raw bytes answers as its fields do; with one reserved byte set its answer is empty.\n\
      accounts 1000\n\
@@ -370,7 +370,7 @@ pub const WORKED: [&str; 44] = [
      end\n\
      get_account_transfers account_id=1 limit=10 flags=debits|credits\n\
      query_transfers raw 00000000000000000000000000000000000000000000000000000000bc0200000000000000000000000000000000000000000000000000000a00000000000000\n\
-     query_transfers raw 00000000000000000000000000000000000000000000000000000000bc0200000000010000000000000000000000000000000000000000000a00000000000000\n",
+     query_transfers raw 00000000000000000000000000000000000000000000000000000000bc0200000000010000000000000000000000000000000000000000000a00000000000000\n%",
 
     // Four clients with accounts of their own.
 
@@ -384,7 +384,7 @@ pub const WORKED: [&str; 44] = [
      + id=111 debit_account_id=11 credit_account_id=12 amount=5 ledger=700 code=1\n\
      + id=112 debit_account_id=12 credit_account_id=11 amount=3 ledger=700 code=1\n\
      + id=113 debit_account_id=11 credit_account_id=12 amount=1 ledger=700 code=1\n\
-     end\n",
+     end\n%",
     // second-client
     "# One of four clients: two accounts of its own and three transfers between them.\n\
      accounts 0\n\
@@ -395,7 +395,7 @@ pub const WORKED: [&str; 44] = [
      + id=121 debit_account_id=21 credit_account_id=22 amount=5 ledger=700 code=1\n\
      + id=122 debit_account_id=22 credit_account_id=21 amount=3 ledger=700 code=1\n\
      + id=123 debit_account_id=21 credit_account_id=22 amount=1 ledger=700 code=1\n\
-     end\n",
+     end\n%",
     // third-client
     "# One of four clients: two accounts of its own and three transfers between them.\n\
      accounts 0\n\
@@ -406,7 +406,7 @@ pub const WORKED: [&str; 44] = [
      + id=131 debit_account_id=31 credit_account_id=32 amount=5 ledger=700 code=1\n\
      + id=132 debit_account_id=32 credit_account_id=31 amount=3 ledger=700 code=1\n\
      + id=133 debit_account_id=31 credit_account_id=32 amount=1 ledger=700 code=1\n\
-     end\n",
+     end\n%",
     // fourth-client
     "# One of four clients: two accounts of its own and three transfers between them.\n\
      accounts 0\n\
@@ -417,7 +417,7 @@ pub const WORKED: [&str; 44] = [
      + id=141 debit_account_id=41 credit_account_id=42 amount=5 ledger=700 code=1\n\
      + id=142 debit_account_id=42 credit_account_id=41 amount=3 ledger=700 code=1\n\
      + id=143 debit_account_id=41 credit_account_id=42 amount=1 ledger=700 code=1\n\
-     end\n",
+     end\n%",
 
     // The recipes of `examples/`: the commands of those files.
 
@@ -437,7 +437,7 @@ pub const WORKED: [&str; 44] = [
      get_account_transfers account_id=1 limit=100 flags=debits|credits|reversed\n\
      get_account_balances account_id=1 limit=100 flags=debits|credits|reversed\n\
      get_account_balances account_id=1 limit=100 flags=credits\n\
-     get_account_balances account_id=2 limit=100 flags=debits|credits\n",
+     get_account_balances account_id=2 limit=100 flags=debits|credits\n%",
     // closing-an-account
     "accounts 1000\n\
      + id=1 ledger=840 code=10\n\
@@ -457,7 +457,7 @@ pub const WORKED: [&str; 44] = [
      + id=703 debit_account_id=2 credit_account_id=1 amount=1 ledger=840 code=1\n\
      + id=705 debit_account_id=2 credit_account_id=1 amount=1 ledger=840 code=1\n\
      end\n\
-     lookup_accounts 1\n",
+     lookup_accounts 1\n%",
     // currency-exchange
     "accounts 1000\n\
      + id=1 ledger=840 code=10 flags=debits_must_not_exceed_credits\n\
@@ -479,7 +479,7 @@ pub const WORKED: [&str; 44] = [
      transfers 5000\n\
      + id=505 debit_account_id=12 credit_account_id=2 amount=1 ledger=978 code=5 flags=linked\n\
      end\n\
-     lookup_accounts 1 2 11 12\n",
+     lookup_accounts 1 2 11 12\n%",
     // expiry
     "accounts 1000\n\
      + id=1 ledger=840 code=10\n\
@@ -494,7 +494,7 @@ pub const WORKED: [&str; 44] = [
      lookup_accounts 1\n\
      pulse 30000002001 10\n\
      lookup_accounts 1\n\
-     lookup_transfers 300\n",
+     lookup_transfers 300\n%",
     // first-transfer
     "accounts 1000\n\
      + id=1 ledger=700 code=10\n\
@@ -503,7 +503,7 @@ pub const WORKED: [&str; 44] = [
      transfers 1000\n\
      + id=5 debit_account_id=1 credit_account_id=2 amount=30 ledger=700 code=1\n\
      end\n\
-     get_account_transfers account_id=1 limit=10 flags=debits|credits\n",
+     get_account_transfers account_id=1 limit=10 flags=debits|credits\n%",
     // overdraft-limit
     "accounts 1000\n\
      + id=1 ledger=840 code=10 flags=debits_must_not_exceed_credits\n\
@@ -520,7 +520,7 @@ pub const WORKED: [&str; 44] = [
      transfers 3000\n\
      + id=401 debit_account_id=2 credit_account_id=1 amount=10000 ledger=840 code=2\n\
      + id=400 debit_account_id=2 credit_account_id=1 amount=1 ledger=840 code=2\n\
-     end\n",
+     end\n%",
     // partial-post
     "accounts 1000\n\
      + id=1 ledger=978 code=10\n\
@@ -538,7 +538,7 @@ pub const WORKED: [&str; 44] = [
      transfers 4000\n\
      + id=203 debit_account_id=1 credit_account_id=2 amount=10 ledger=978 code=3 flags=pending\n\
      + id=204 pending_id=203 amount=11 flags=post_pending_transfer\n\
-     end\n",
+     end\n%",
     // refusals
     "accounts 1000\n\
      + id=1 ledger=700 code=10\n\
@@ -558,7 +558,7 @@ pub const WORKED: [&str; 44] = [
      + id=6 debit_account_id=1 credit_account_id=2 amount=1 ledger=700 code=1\n\
      end\n\
      get_account_transfers account_id=1 limit=10\n\
-     get_account_transfers account_id=1 limit=10 flags=debits|credits\n",
+     get_account_transfers account_id=1 limit=10 flags=debits|credits\n%",
     // searches
     "accounts 1000\n\
      + id=1 ledger=840 code=10 user_data_128=77\n\
@@ -574,7 +574,7 @@ pub const WORKED: [&str; 44] = [
      query_accounts user_data_128=77 ledger=840 limit=10\n\
      query_transfers user_data_64=202602 limit=1 flags=reversed\n\
      query_transfers code=1 timestamp_min=2002 limit=10\n\
-     lookup_transfers 802 9 800\n",
+     lookup_transfers 802 9 800\n%",
     // sent-again
     "accounts 1000\n\
      + id=1 ledger=700 code=10\n\
@@ -587,7 +587,7 @@ pub const WORKED: [&str; 44] = [
      + id=5 debit_account_id=1 credit_account_id=2 amount=30 ledger=700 code=1\n\
      + id=5 debit_account_id=1 credit_account_id=2 amount=31 ledger=700 code=1\n\
      end\n\
-     get_account_transfers account_id=1 limit=10 flags=debits|credits\n",
+     get_account_transfers account_id=1 limit=10 flags=debits|credits\n%",
     // statement
     "accounts 1000\n\
      + id=1 ledger=840 code=10\n\
@@ -601,7 +601,7 @@ pub const WORKED: [&str; 44] = [
      end\n\
      get_account_transfers account_id=1 limit=100 flags=credits\n\
      get_account_transfers account_id=1 code=8 limit=100 flags=debits|reversed\n\
-     get_account_transfers account_id=1 user_data_64=202602 limit=100 flags=debits|credits\n",
+     get_account_transfers account_id=1 user_data_64=202602 limit=100 flags=debits|credits\n%",
     // two-phase-payment
     "accounts 1000\n\
      + id=1 ledger=840 code=10\n\
@@ -620,5 +620,15 @@ pub const WORKED: [&str; 44] = [
      + id=103 pending_id=102 flags=void_pending_transfer\n\
      + id=104 pending_id=102 amount=max flags=post_pending_transfer\n\
      end\n\
-     lookup_accounts 1\n",
-];
+     lookup_accounts 1\n"
+);
+
+/// The script at a place.
+pub fn script_at(place: usize) -> Option<&'static str> {
+    WORKED.split('%').nth(place)
+}
+
+/// How many there are.
+pub fn scripts() -> usize {
+    WORKED.split('%').count()
+}
