@@ -1,16 +1,18 @@
 -- What is read of a manifest's row, by its kind.
-use Rattle.std.proofs.Common.{◌≡◌, ℕ, ◌<◌, List, [], length, Option, None, IfNone, IsSome, ◌∙◌, ap, subst}
+use Rattle.std.proofs.Common.{◌≡◌, ℕ, ◌<◌, List, [], length, Option, Some, None, IfSome, IfNone, IsSome, ◌∙◌, ap, subst}
 use Rattle.std.specs.Prelude.{slice_index_or}
 use Rattle.std.specs.Option.{option_map}
 use Rattle.tf_table.specs.declared.key.Key.{Key}
 use Rattle.tf_table.specs.Content.{entry_of}
 use Rattle.tf_table.specs.First.{IsFirstAbove}
+use Rattle.tf_manifest.specs.declared.jobs.Job.{Job}
 use Rattle.tf_manifest.specs.declared.kind.Kind.{Kind}
 use Rattle.tf_manifest.specs.declared.row.Row.{Row}
 use Rattle.tf_manifest.specs.declared.value.Value.{Value}
+use Rattle.tf_manifest.specs.Jobs.{IsPickedFrom, kind_of_job, run_of}
 use Rattle.tf_manifest.specs.Kinds.{kind_of}
 use Rattle.tf_registry.specs.Row.{content_at, lists_of}
-use Rattle.tf_registry.specs.Run.{Run, count_at}
+use Rattle.tf_registry.specs.Run.{IsPicked, Run, Stands, count_at}
 use Rattle.tf_registry.specs.Table.{Shown}
 use Rattle.tf_manifest.specs.View.{View, StoredBy, value_by, rows_by, tables_by, place_by, value_in_kind, content_in, references_in}
 
@@ -56,3 +58,17 @@ pub room : (Q : Type 0) (inside view : View) (row : Row) (k : Kind) (at : ℕ) (
     → found ≡ None → (length tables ≡ 64 → IsSome found) → references_in view row ≡ 64 → Q
 room Q inside view row k at tables found v e p t is h =
     of_row (λ V ts. length ts ≡ 64 → Q) inside view row k at tables v e p t (λ many. let there = h many in absurd (cc))
+
+module _ {A N : Type 0} where
+  -- a run that was found is the row's to merge next
+  pub chosen : (inside view : View) (row : Row) (job : Job A N) (at : ℕ) (tables : List (Shown (StoredBy (kind_of_job job)))) (found : Option (Run (StoredBy (kind_of_job job))))
+      → inside ≡ view → kind_of_job job ≡ kind_of row → at ≡ place_by (kind_of_job job) → tables ≡ slice_index_or (rows_by inside (kind_of_job job)) at []
+      → found ≡ Some (run_of job) → IfSome found (IsPicked tables) → IfSome found (Stands tables) → IsPickedFrom view row job
+  chosen inside view row job at tables found v e p t is picked stands =
+      let k : Kind = kind_of_job job in
+      let there : tables ≡ tables_by view k = t ∙ ap (λ (i : ℕ). slice_index_or (rows_by inside k) i []) p ∙ ap (λ (w : View). tables_by w k) v in
+      record {
+        from = e;
+        picked = subst (λ (ts : List (Shown (StoredBy k))). IsPicked ts (run_of job)) there (subst (λ (o : Option (Run (StoredBy k))). IfSome o (IsPicked tables)) is picked);
+        stands = subst (λ (ts : List (Shown (StoredBy k))). Stands ts (run_of job)) there (subst (λ (o : Option (Run (StoredBy k))). IfSome o (Stands tables)) is stands);
+      }

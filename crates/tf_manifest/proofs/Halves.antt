@@ -21,6 +21,10 @@ both P Q None b x y = tt
 both P Q (Some s) None x y = tt
 both P Q (Some s) (Some t) x y = (x, y)
 
+weaker : {S : Type 0} (P Q : S → Type 0) (a : Option S) → ((s : S) → P s → Q s) → IfSome a P → IfSome a Q
+weaker P Q None f h = tt
+weaker P Q (Some s) f h = f s h
+
 -- what holds of two values that are there holds of each
 pub zipped : {S T : Type 0} (P : S → Type 0) (Q : T → Type 0) (a : Option S) (b : Option T) (s : S) (t : T) → Some (s, t) ≡ option_zip a b → IfSome a P → IfSome b Q → P s × Q t
 zipped P Q a b s t e x y = subst (λ o. IfSome o (λ p. P p.0 × Q p.1)) (sym e) (both P Q a b x y)
@@ -30,6 +34,31 @@ RecordRows = (Rows ℕ × Rows (Stored Account)) × (Rows (Stored Transfer) × R
 
 abbrev pub StateRows : Type 0
 StateRows = (Rows (Unit {0}) × Rows State) × (Rows (Stored Sums) × Rows (Stored Status))
+
+module _ (view : View) where
+  -- four kinds of rows that are there are the first half
+  pub records : (stamps : Option (Rows ℕ)) (accounts : Option (Rows (Stored Account))) (transfers : Option (Rows (Stored Transfer))) (ids : Option (Rows IdStamp)) (all : Option RecordRows)
+      → IfSome stamps (λ rows. rows ≡ view.stamps) → IfSome accounts (λ rows. rows ≡ view.accounts) → IfSome transfers (λ rows. rows ≡ view.transfers) → IfSome ids (λ rows. rows ≡ view.ids)
+      → all ≡ option_zip (option_zip stamps accounts) (option_zip transfers ids) → IfSome all (AreRecords view)
+  records stamps accounts transfers ids all h1 h2 h3 h4 is =
+      weaker (λ h. ((h.0.0 ≡ view.stamps) × (h.0.1 ≡ view.accounts)) × ((h.1.0 ≡ view.transfers) × (h.1.1 ≡ view.ids))) (AreRecords view) all
+      (λ h e. record { stamps = e.0.0; accounts = e.0.1; transfers = e.1.0; ids = e.1.1 })
+      (subst (λ o. IfSome o (λ h. ((h.0.0 ≡ view.stamps) × (h.0.1 ≡ view.accounts)) × ((h.1.0 ≡ view.transfers) × (h.1.1 ≡ view.ids)))) (sym is)
+      (both (λ p. (p.0 ≡ view.stamps) × (p.1 ≡ view.accounts)) (λ p. (p.0 ≡ view.transfers) × (p.1 ≡ view.ids)) (option_zip stamps accounts) (option_zip transfers ids)
+      (both (λ rows. rows ≡ view.stamps) (λ rows. rows ≡ view.accounts) stamps accounts h1 h2)
+      (both (λ rows. rows ≡ view.transfers) (λ rows. rows ≡ view.ids) transfers ids h3 h4)))
+
+  -- four kinds of rows that are there are the second half
+  pub states : (units : Option (Rows (Unit {0}))) (balances : Option (Rows State)) (sums : Option (Rows (Stored Sums))) (statuses : Option (Rows (Stored Status))) (all : Option StateRows)
+      → IfSome units (λ rows. rows ≡ view.units) → IfSome balances (λ rows. rows ≡ view.states) → IfSome sums (λ rows. rows ≡ view.sums) → IfSome statuses (λ rows. rows ≡ view.statuses)
+      → all ≡ option_zip (option_zip units balances) (option_zip sums statuses) → IfSome all (AreStates view)
+  states units balances sums statuses all h1 h2 h3 h4 is =
+      weaker (λ h. ((h.0.0 ≡ view.units) × (h.0.1 ≡ view.states)) × ((h.1.0 ≡ view.sums) × (h.1.1 ≡ view.statuses))) (AreStates view) all
+      (λ h e. record { units = e.0.0; states = e.0.1; sums = e.1.0; statuses = e.1.1 })
+      (subst (λ o. IfSome o (λ h. ((h.0.0 ≡ view.units) × (h.0.1 ≡ view.states)) × ((h.1.0 ≡ view.sums) × (h.1.1 ≡ view.statuses)))) (sym is)
+      (both (λ p. (p.0 ≡ view.units) × (p.1 ≡ view.states)) (λ p. (p.0 ≡ view.sums) × (p.1 ≡ view.statuses)) (option_zip units balances) (option_zip sums statuses)
+      (both (λ rows. rows ≡ view.units) (λ rows. rows ≡ view.states) units balances h1 h2)
+      (both (λ rows. rows ≡ view.sums) (λ rows. rows ≡ view.statuses) sums statuses h3 h4)))
 
 -- the rows of two halves and a count of pushes
 abbrev pub of_halves : RecordRows → StateRows → Pushed → View

@@ -4,6 +4,7 @@
 #![tactic(auto)]
 
 mod choosing;
+mod four;
 mod jobs;
 mod kind;
 mod kind_rows;

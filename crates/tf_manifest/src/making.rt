@@ -5,6 +5,7 @@ ghost use Rattle.tf_manifest.specs.Halves.{AreRecords, AreStates};
 ghost use Rattle.tf_manifest.specs.Registries.{AreShelves};
 ghost use Rattle.tf_manifest.specs.View.{no_tables};
 
+use crate::four::four;
 use crate::{IdStamp, KindRows, Manifest, Registries, RowValue, StampRow, State, Stored, UnitRow};
 use std::alloc::Allocator;
 use std::sync::Arc;
@@ -61,7 +62,7 @@ pub(crate) fn new_records<A: Allocator + Clone, N: Naming>(
     let accounts = new_rows(&registries.accounts, 1, alloc);
     let transfers = new_rows(&registries.transfers, 1, alloc);
     let ids = new_rows(&registries.ids, 1, alloc);
-    stamps.zip(accounts).zip(transfers.zip(ids))
+    four(stamps, accounts, transfers, ids)
 }
 
 /// The second half of a manifest with no tables.
@@ -76,7 +77,7 @@ pub(crate) fn new_states<A: Allocator + Clone, N: Naming>(
     let states = new_rows(&registries.states, 1, alloc);
     let sums = new_rows(&registries.sums, 1, alloc);
     let statuses = new_rows(&registries.statuses, 1, alloc);
-    units.zip(states).zip(sums.zip(statuses))
+    four(units, states, sums, statuses)
 }
 
 /// A copy of the first half of a manifest.
@@ -90,7 +91,7 @@ pub(crate) fn records_again<A: Allocator + Clone, N: Naming>(
     let accounts = rows_again(&manifest.accounts, alloc);
     let transfers = rows_again(&manifest.transfers, alloc);
     let ids = rows_again(&manifest.ids, alloc);
-    stamps.zip(accounts).zip(transfers.zip(ids))
+    four(stamps, accounts, transfers, ids)
 }
 
 /// A copy of the second half of a manifest.
@@ -104,5 +105,5 @@ pub(crate) fn states_again<A: Allocator + Clone, N: Naming>(
     let states = rows_again(&manifest.states, alloc);
     let sums = rows_again(&manifest.sums, alloc);
     let statuses = rows_again(&manifest.statuses, alloc);
-    units.zip(states).zip(sums.zip(statuses))
+    four(units, states, sums, statuses)
 }

@@ -1,6 +1,7 @@
 //! The registries of all kinds of values.
 ghost use Rattle.std.specs.Prelude.{◌≡◌, ◌≤◌, IfOk, IfErr, min};
 
+use crate::four::four;
 use crate::{IdStamp, State, Stored};
 use std::alloc::Allocator;
 use std::sync::Arc;
@@ -45,9 +46,8 @@ impl<A: Allocator + Clone> Registries<A> {
         ensures limit { IfOk result (λ registries. registries.limit ≡ min limit 1048576) }
         ensures err { IfErr result (λ refusal. refusal ≡ Refusal.NoMemory) }
     {
-        let records = two(&alloc).zip(two(&alloc));
-        let states = two(&alloc).zip(two(&alloc));
-        let Some((records, states)) = records.zip(states) else {
+        let pairs = four(two(&alloc), two(&alloc), two(&alloc), two(&alloc));
+        let Some((records, states)) = pairs else {
             return Err(Refusal::NoMemory);
         };
         let ((stamps, accounts), (transfers, ids)) = records;

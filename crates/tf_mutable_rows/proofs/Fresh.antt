@@ -1,7 +1,7 @@
 -- The entries of one row's mutable table among those of all.
 use Rattle.std.proofs.Common.{◌≡◌, ◌≢◌, ◌⊎◌, ℕ, zero, suc, ◌+◌, ◌<◌, List, [], ◌∷◌, ◌++◌, length, Option, None, Result, Ok, Err, IfOk, OnOk, OnErr, Bool, true, false, inl, inr, refl, sym, ◌∙◌, ap, subst, slice_set, arith}
-use Rattle.std.specs.Prelude.{slice_index_or, IsSome, ⊤}
-use Rattle.std.proofs.lemmas.Bool.{false≢true}
+use Rattle.std.specs.Prelude.{slice_index_or, IsSome, IsTrue, ⊤, ◌==◌, ◌↔◌}
+use Rattle.std.proofs.lemmas.Bool.{false≢true, ne_eqb}
 use Rattle.std.proofs.lemmas.List.{length-append}
 use Rattle.tf_sorted.specs.Rows.{with_row}
 use Rattle.tf_journal.specs.declared.status.Status.{Status}
@@ -243,6 +243,18 @@ pub units_become : (inside : Fresh) (u : UnitRow) (rows : List (Key × Option (U
     → record inside { units = units } ≡ with_fresh inside (kind.Unit u) rows
 units_become inside u rows units is = ap (λ (lists : List (List (Key × Option (Unit {0})))). record inside { units = lists }) is
 
+-- whether there are no entries, by their number
+none_counted : {V : Type 0} (seen : V → Value) (rows : List (Key × Option V)) → (length rows == 0) ≡ is_nil (seen_rows seen rows)
+none_counted seen [] = refl
+none_counted seen (row ∷ rows) = ne_eqb (suc (length rows)) 0 (λ e. omega (arith, e))
+
+-- and by what a tree tells
+none_told : {V : Type 0} (seen : V → Value) (rows : List (Key × Option V)) (told : Bool) → (IsTrue told ↔ (rows ≡ [])) → told ≡ is_nil (seen_rows seen rows)
+none_told seen [] true e = refl
+none_told seen [] false e = absurd (false≢true (e.1 refl))
+none_told seen (row ∷ rows) true e = let none : row ∷ rows ≡ [] = e.0 refl in absurd (cc)
+none_told seen (row ∷ rows) false e = refl
+
 -- of the mutable tables whose entries are `inside` and are seen as `view`, the one of a row, of this kind, that has the
 -- entries `old`
 module _ (inside view : Fresh) (is : inside ≡ view) (r : Row) (k : Kind) (of : k ≡ kind_of r) (old : List (Key × Option (StoredBy k))) (has : fresh_by inside k ≡ old) where
@@ -253,8 +265,13 @@ module _ (inside view : Fresh) (is : inside ≡ view) (r : Row) (k : Kind) (of :
       ∙ ap (λ (fresh : Fresh). seen_rows (value_by k) (fresh_by fresh k)) is
       ∙ ap (λ (x : Kind). seen_rows (value_by x) (fresh_by view x)) of
 
-  pub none_found : (result : Bool) → result ≡ is_nil (seen_rows (value_by k) old) → result ≡ is_nil (entries_by view r)
-  none_found result e = e ∙ ap is_nil read
+  -- a log without rows has none for the row
+  pub no_log : (result : Bool) → result ≡ (length old == 0) → result ≡ is_nil (entries_by view r)
+  no_log result e = e ∙ none_counted (value_by k) old ∙ ap is_nil read
+
+  -- nor has a tree
+  pub no_tree : (result : Bool) → (IsTrue result ↔ (old ≡ [])) → result ≡ is_nil (entries_by view r)
+  no_tree result e = none_told (value_by k) old result e ∙ ap is_nil read
 
   -- a sealed table of this kind with these entries is sealed of the row
   pub sealed_of : {A : Type 0} (s : SealedRow A) (named : kind_of_sealed s ≡ k) → seen_rows (value_by (kind_of_sealed s)) (entries_of_sealed s) ≡ seen_rows (value_by k) old → IsSealedOf {A = A} (entries_by view) r s

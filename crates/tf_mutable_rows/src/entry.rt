@@ -7,7 +7,6 @@ ghost use Rattle.tf_table.specs.First.{IsFirstAbove};
 ghost use Rattle.tf_table.specs.Key.{key_cmp};
 ghost use Rattle.tf_mutable.specs.Mutable.{given_back};
 ghost use Rattle.tf_rows.specs.Parts.{seen_rows};
-ghost use Rattle.tf_registry.specs.Row.{is_nil};
 
 use crate::held::Held;
 use std::alloc::Allocator;
@@ -28,13 +27,6 @@ pub(crate) fn entry_in<V: Held, M: MutableTable<V, A>, A: Allocator + Clone>(
         Some(entry) => Some(seen_entry(entry)),
         None => None,
     }
-}
-
-/// Whether there is no entry.
-pub(crate) fn has_none<V: Held, M: MutableTable<V, A>, A: Allocator + Clone>(table: &M) -> bool
-    ensures { result ≡ is_nil (seen_rows V.seen (M.rows table.now)) }
-{
-    table.is_empty()
 }
 
 /// Gives a key an entry, and tells the one that it had.

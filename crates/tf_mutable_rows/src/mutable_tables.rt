@@ -10,7 +10,7 @@ ghost use Rattle.tf_table.specs.Content.{entry_at};
 ghost use Rattle.tf_table.specs.Key.{key_cmp};
 ghost use Rattle.tf_mutable.specs.Mutable.{given_back};
 
-use crate::entry::{entry_in, has_none, put_entry, take_back};
+use crate::entry::{entry_in, put_entry, take_back};
 use std::alloc::Allocator;
 use std::marker::Model;
 use tf_btree::Tree;
@@ -224,18 +224,18 @@ impl<A: Allocator + Copy> EmptyRows<A> for MutableTables<A> {
 impl<A: Allocator + Clone> SealRows<A> for MutableTables<A> {
     fn has_none(&self, row: Row) -> bool {
         match row.kind() {
-            Kind::Stamp(StampRow::AccountIds) => has_none(&self.account_ids),
-            Kind::Stamp(StampRow::ExpiryEntries) => has_none(&self.expiry_entries),
-            Kind::Account => has_none(&self.account_objects),
-            Kind::Transfer => has_none(&self.transfer_objects),
-            Kind::Id => has_none(&self.transfer_ids),
+            Kind::Stamp(StampRow::AccountIds) => self.account_ids.is_empty(),
+            Kind::Stamp(StampRow::ExpiryEntries) => self.expiry_entries.is_empty(),
+            Kind::Account => self.account_objects.is_empty(),
+            Kind::Transfer => self.transfer_objects.is_empty(),
+            Kind::Id => self.transfer_ids.is_empty(),
             Kind::Unit(row) => match index_place(row) {
-                Some(place) => has_none(&self.indexes.as_slice()[place]),
-                None => has_none(&self.expiry),
+                Some(place) => self.indexes.as_slice()[place].is_empty(),
+                None => self.expiry.is_empty(),
             },
-            Kind::State => has_none(&self.account_sums),
-            Kind::Sums => has_none(&self.history),
-            Kind::Status => has_none(&self.pending_status),
+            Kind::State => self.account_sums.is_empty(),
+            Kind::Sums => self.history.is_empty(),
+            Kind::Status => self.pending_status.is_empty(),
         }
     }
 

@@ -1,6 +1,7 @@
 use Rattle.std.proofs.Common.{refl}
+use Rattle.tf_manifest.specs.declared.jobs.Job.TheVariants as job
 use Rattle.tf_manifest.specs.declared.kind.Kind.TheVariants as kind
-use Rattle.tf_manifest.proofs.ByKind.{none, room}
+use Rattle.tf_manifest.proofs.ByKind.{chosen, none, room}
 use Rattle.tf_manifest.proofs.manifest.Manifest.pick.Goals as goal
 
 pub returns-in-None-clause-none : goal.returns-in-None-clause-none
@@ -50,3 +51,27 @@ returns-in-None-8-clause-none g c = none _ c.args.self.now c.args.row kind.Statu
 
 pub returns-in-None-8-clause-full : goal.returns-in-None-8-clause-full
 returns-in-None-8-clause-full g c = room _ _ c.args.self.now c.args.row kind.Status _ _ c.in_ok-job-in-Status.field-0 c.self.view_is c.in-Status.ensures refl c.row-in-Status.ensures.row c.in-None-8.is c.in_ok-job-in-Status.ensures.full
+
+pub returns-in-Some-clause-some : goal.returns-in-Some-clause-some
+returns-in-Some-clause-some g c = chosen _ c.args.self.now c.args.row (job.Stamp c.in-Stamp.row c.in-Some.job) _ _ c.in_ok-job-in-Stamp.field-0 c.self.view_is c.in-Stamp.ensures c.index.ensures.place c.row.ensures.row c.in-Some.is c.in_ok-job-in-Stamp.ensures.some c.in_ok-job-in-Stamp.ensures.stands
+
+pub returns-in-Some-2-clause-some : goal.returns-in-Some-2-clause-some
+returns-in-Some-2-clause-some g c = chosen _ c.args.self.now c.args.row (job.Account c.in-Some-2.job) _ _ c.in_ok-job-in-Account.field-0 c.self.view_is c.in-Account.ensures refl c.row-in-Account.ensures.row c.in-Some-2.is c.in_ok-job-in-Account.ensures.some c.in_ok-job-in-Account.ensures.stands
+
+pub returns-in-Some-3-clause-some : goal.returns-in-Some-3-clause-some
+returns-in-Some-3-clause-some g c = chosen _ c.args.self.now c.args.row (job.Transfer c.in-Some-3.job) _ _ c.in_ok-job-in-Transfer.field-0 c.self.view_is c.in-Transfer.ensures refl c.row-in-Transfer.ensures.row c.in-Some-3.is c.in_ok-job-in-Transfer.ensures.some c.in_ok-job-in-Transfer.ensures.stands
+
+pub returns-in-Some-4-clause-some : goal.returns-in-Some-4-clause-some
+returns-in-Some-4-clause-some g c = chosen _ c.args.self.now c.args.row (job.Id c.in-Some-4.job) _ _ c.in_ok-job-in-Id.field-0 c.self.view_is c.in-Id.ensures refl c.row-in-Id.ensures.row c.in-Some-4.is c.in_ok-job-in-Id.ensures.some c.in_ok-job-in-Id.ensures.stands
+
+pub returns-in-Some-5-clause-some : goal.returns-in-Some-5-clause-some
+returns-in-Some-5-clause-some g c = chosen _ c.args.self.now c.args.row (job.Unit c.in-Unit.row c.in-Some-5.job) _ _ c.in_ok-job-in-Unit.field-0 c.self.view_is c.in-Unit.ensures c.index-in-Unit.ensures.place c.row-in-Unit.ensures.row c.in-Some-5.is c.in_ok-job-in-Unit.ensures.some c.in_ok-job-in-Unit.ensures.stands
+
+pub returns-in-Some-6-clause-some : goal.returns-in-Some-6-clause-some
+returns-in-Some-6-clause-some g c = chosen _ c.args.self.now c.args.row (job.State c.in-Some-6.job) _ _ c.in_ok-job-in-State.field-0 c.self.view_is c.in-State.ensures refl c.row-in-State.ensures.row c.in-Some-6.is c.in_ok-job-in-State.ensures.some c.in_ok-job-in-State.ensures.stands
+
+pub returns-in-Some-7-clause-some : goal.returns-in-Some-7-clause-some
+returns-in-Some-7-clause-some g c = chosen _ c.args.self.now c.args.row (job.Sums c.in-Some-7.job) _ _ c.in_ok-job-in-Sums.field-0 c.self.view_is c.in-Sums.ensures refl c.row-in-Sums.ensures.row c.in-Some-7.is c.in_ok-job-in-Sums.ensures.some c.in_ok-job-in-Sums.ensures.stands
+
+pub returns-in-Some-8-clause-some : goal.returns-in-Some-8-clause-some
+returns-in-Some-8-clause-some g c = chosen _ c.args.self.now c.args.row (job.Status c.in-Some-8.job) _ _ c.in_ok-job-in-Status.field-0 c.self.view_is c.in-Status.ensures refl c.row-in-Status.ensures.row c.in-Some-8.is c.in_ok-job-in-Status.ensures.some c.in_ok-job-in-Status.ensures.stands

@@ -125,3 +125,220 @@ invariant_of-self-in-Unit g c =
         statuses = rows.statuses;
       },
     )
+
+pub invariant_of-self : goal.invariant_of-self
+invariant_of-self g c =
+    let light = c.self.invariant.0 in
+    let rows = c.self.invariant.1 in
+    let installs = c.install.ensures in
+    let was = c.self.inside.pushes in
+    let now = c.install.new.pushes in
+    let within : c.index.result < length c.self.inside.stamps = omega (arith, c.index.ensures.below, rows.stamps) in
+    let more : was.count ≤ now.count = counted was now c.install.result _ installs.pushed installs.err in (
+      record {
+        stamps = answered was now c.self.inside.stamps c.index.result c.in-Stamp.out c.install.result c.install.new.self within installs.installs installs.pushed installs.err light.stamps;
+        accounts = lighter was.count now.count c.self.inside.accounts more light.accounts;
+        transfers = lighter was.count now.count c.self.inside.transfers more light.transfers;
+        ids = lighter was.count now.count c.self.inside.ids more light.ids;
+        units = lighter was.count now.count c.self.inside.units more light.units;
+        states = lighter was.count now.count c.self.inside.states more light.states;
+        sums = lighter was.count now.count c.self.inside.sums more light.sums;
+        statuses = lighter was.count now.count c.self.inside.statuses more light.statuses;
+      },
+      record {
+        stamps = installs.count ∙ rows.stamps;
+        accounts = rows.accounts;
+        transfers = rows.transfers;
+        ids = rows.ids;
+        units = rows.units;
+        states = rows.states;
+        sums = rows.sums;
+        statuses = rows.statuses;
+      },
+    )
+
+pub invariant_of-self-in-Account : goal.invariant_of-self-in-Account
+invariant_of-self-in-Account g c =
+    let light = c.self.invariant.0 in
+    let rows = c.self.invariant.1 in
+    let installs = c.install-in-Account.ensures in
+    let was = c.self.inside.pushes in
+    let now = c.install-in-Account.new.pushes in
+    let within : 0 < length c.self.inside.accounts = omega (arith, rows.accounts) in
+    let more : was.count ≤ now.count = counted was now c.install-in-Account.result _ installs.pushed installs.err in (
+      record {
+        stamps = lighter was.count now.count c.self.inside.stamps more light.stamps;
+        accounts = answered was now c.self.inside.accounts 0 c.in-Account.out c.install-in-Account.result c.install-in-Account.new.self within installs.installs installs.pushed installs.err light.accounts;
+        transfers = lighter was.count now.count c.self.inside.transfers more light.transfers;
+        ids = lighter was.count now.count c.self.inside.ids more light.ids;
+        units = lighter was.count now.count c.self.inside.units more light.units;
+        states = lighter was.count now.count c.self.inside.states more light.states;
+        sums = lighter was.count now.count c.self.inside.sums more light.sums;
+        statuses = lighter was.count now.count c.self.inside.statuses more light.statuses;
+      },
+      record {
+        stamps = rows.stamps;
+        accounts = installs.count ∙ rows.accounts;
+        transfers = rows.transfers;
+        ids = rows.ids;
+        units = rows.units;
+        states = rows.states;
+        sums = rows.sums;
+        statuses = rows.statuses;
+      },
+    )
+
+pub invariant_of-self-in-Transfer : goal.invariant_of-self-in-Transfer
+invariant_of-self-in-Transfer g c =
+    let light = c.self.invariant.0 in
+    let rows = c.self.invariant.1 in
+    let installs = c.install-in-Transfer.ensures in
+    let was = c.self.inside.pushes in
+    let now = c.install-in-Transfer.new.pushes in
+    let within : 0 < length c.self.inside.transfers = omega (arith, rows.transfers) in
+    let more : was.count ≤ now.count = counted was now c.install-in-Transfer.result _ installs.pushed installs.err in (
+      record {
+        stamps = lighter was.count now.count c.self.inside.stamps more light.stamps;
+        accounts = lighter was.count now.count c.self.inside.accounts more light.accounts;
+        transfers = answered was now c.self.inside.transfers 0 c.in-Transfer.out c.install-in-Transfer.result c.install-in-Transfer.new.self within installs.installs installs.pushed installs.err light.transfers;
+        ids = lighter was.count now.count c.self.inside.ids more light.ids;
+        units = lighter was.count now.count c.self.inside.units more light.units;
+        states = lighter was.count now.count c.self.inside.states more light.states;
+        sums = lighter was.count now.count c.self.inside.sums more light.sums;
+        statuses = lighter was.count now.count c.self.inside.statuses more light.statuses;
+      },
+      record {
+        stamps = rows.stamps;
+        accounts = rows.accounts;
+        transfers = installs.count ∙ rows.transfers;
+        ids = rows.ids;
+        units = rows.units;
+        states = rows.states;
+        sums = rows.sums;
+        statuses = rows.statuses;
+      },
+    )
+
+pub invariant_of-self-in-Id : goal.invariant_of-self-in-Id
+invariant_of-self-in-Id g c =
+    let light = c.self.invariant.0 in
+    let rows = c.self.invariant.1 in
+    let installs = c.install-in-Id.ensures in
+    let was = c.self.inside.pushes in
+    let now = c.install-in-Id.new.pushes in
+    let within : 0 < length c.self.inside.ids = omega (arith, rows.ids) in
+    let more : was.count ≤ now.count = counted was now c.install-in-Id.result _ installs.pushed installs.err in (
+      record {
+        stamps = lighter was.count now.count c.self.inside.stamps more light.stamps;
+        accounts = lighter was.count now.count c.self.inside.accounts more light.accounts;
+        transfers = lighter was.count now.count c.self.inside.transfers more light.transfers;
+        ids = answered was now c.self.inside.ids 0 c.in-Id.out c.install-in-Id.result c.install-in-Id.new.self within installs.installs installs.pushed installs.err light.ids;
+        units = lighter was.count now.count c.self.inside.units more light.units;
+        states = lighter was.count now.count c.self.inside.states more light.states;
+        sums = lighter was.count now.count c.self.inside.sums more light.sums;
+        statuses = lighter was.count now.count c.self.inside.statuses more light.statuses;
+      },
+      record {
+        stamps = rows.stamps;
+        accounts = rows.accounts;
+        transfers = rows.transfers;
+        ids = installs.count ∙ rows.ids;
+        units = rows.units;
+        states = rows.states;
+        sums = rows.sums;
+        statuses = rows.statuses;
+      },
+    )
+
+pub invariant_of-self-in-State : goal.invariant_of-self-in-State
+invariant_of-self-in-State g c =
+    let light = c.self.invariant.0 in
+    let rows = c.self.invariant.1 in
+    let installs = c.install-in-State.ensures in
+    let was = c.self.inside.pushes in
+    let now = c.install-in-State.new.pushes in
+    let within : 0 < length c.self.inside.states = omega (arith, rows.states) in
+    let more : was.count ≤ now.count = counted was now c.install-in-State.result _ installs.pushed installs.err in (
+      record {
+        stamps = lighter was.count now.count c.self.inside.stamps more light.stamps;
+        accounts = lighter was.count now.count c.self.inside.accounts more light.accounts;
+        transfers = lighter was.count now.count c.self.inside.transfers more light.transfers;
+        ids = lighter was.count now.count c.self.inside.ids more light.ids;
+        units = lighter was.count now.count c.self.inside.units more light.units;
+        states = answered was now c.self.inside.states 0 c.in-State.out c.install-in-State.result c.install-in-State.new.self within installs.installs installs.pushed installs.err light.states;
+        sums = lighter was.count now.count c.self.inside.sums more light.sums;
+        statuses = lighter was.count now.count c.self.inside.statuses more light.statuses;
+      },
+      record {
+        stamps = rows.stamps;
+        accounts = rows.accounts;
+        transfers = rows.transfers;
+        ids = rows.ids;
+        units = rows.units;
+        states = installs.count ∙ rows.states;
+        sums = rows.sums;
+        statuses = rows.statuses;
+      },
+    )
+
+pub invariant_of-self-in-Sums : goal.invariant_of-self-in-Sums
+invariant_of-self-in-Sums g c =
+    let light = c.self.invariant.0 in
+    let rows = c.self.invariant.1 in
+    let installs = c.install-in-Sums.ensures in
+    let was = c.self.inside.pushes in
+    let now = c.install-in-Sums.new.pushes in
+    let within : 0 < length c.self.inside.sums = omega (arith, rows.sums) in
+    let more : was.count ≤ now.count = counted was now c.install-in-Sums.result _ installs.pushed installs.err in (
+      record {
+        stamps = lighter was.count now.count c.self.inside.stamps more light.stamps;
+        accounts = lighter was.count now.count c.self.inside.accounts more light.accounts;
+        transfers = lighter was.count now.count c.self.inside.transfers more light.transfers;
+        ids = lighter was.count now.count c.self.inside.ids more light.ids;
+        units = lighter was.count now.count c.self.inside.units more light.units;
+        states = lighter was.count now.count c.self.inside.states more light.states;
+        sums = answered was now c.self.inside.sums 0 c.in-Sums.out c.install-in-Sums.result c.install-in-Sums.new.self within installs.installs installs.pushed installs.err light.sums;
+        statuses = lighter was.count now.count c.self.inside.statuses more light.statuses;
+      },
+      record {
+        stamps = rows.stamps;
+        accounts = rows.accounts;
+        transfers = rows.transfers;
+        ids = rows.ids;
+        units = rows.units;
+        states = rows.states;
+        sums = installs.count ∙ rows.sums;
+        statuses = rows.statuses;
+      },
+    )
+
+pub invariant_of-self-in-Status : goal.invariant_of-self-in-Status
+invariant_of-self-in-Status g c =
+    let light = c.self.invariant.0 in
+    let rows = c.self.invariant.1 in
+    let installs = c.install-in-Status.ensures in
+    let was = c.self.inside.pushes in
+    let now = c.install-in-Status.new.pushes in
+    let within : 0 < length c.self.inside.statuses = omega (arith, rows.statuses) in
+    let more : was.count ≤ now.count = counted was now c.install-in-Status.result _ installs.pushed installs.err in (
+      record {
+        stamps = lighter was.count now.count c.self.inside.stamps more light.stamps;
+        accounts = lighter was.count now.count c.self.inside.accounts more light.accounts;
+        transfers = lighter was.count now.count c.self.inside.transfers more light.transfers;
+        ids = lighter was.count now.count c.self.inside.ids more light.ids;
+        units = lighter was.count now.count c.self.inside.units more light.units;
+        states = lighter was.count now.count c.self.inside.states more light.states;
+        sums = lighter was.count now.count c.self.inside.sums more light.sums;
+        statuses = answered was now c.self.inside.statuses 0 c.in-Status.out c.install-in-Status.result c.install-in-Status.new.self within installs.installs installs.pushed installs.err light.statuses;
+      },
+      record {
+        stamps = rows.stamps;
+        accounts = rows.accounts;
+        transfers = rows.transfers;
+        ids = rows.ids;
+        units = rows.units;
+        states = rows.states;
+        sums = rows.sums;
+        statuses = installs.count ∙ rows.statuses;
+      },
+    )
