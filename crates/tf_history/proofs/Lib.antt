@@ -1,3 +1,4 @@
 pub mod Prefixes
 pub mod Publications
 pub mod Steps
+pub mod Noting

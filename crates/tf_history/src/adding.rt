@@ -1,48 +1,30 @@
-//! The step that adds a publication to a history.
-ghost use Rattle.std.specs.Prelude.{◌≡◌, ◌+◌, ◌^◌, ◌<◌, ◌++◌, ◌∷◌, [], length, IfSome};
+//! How a publication is added to a history.
+ghost use Rattle.std.specs.Prelude.{◌≡◌, ◌++◌, ◌∷◌, [], length};
 ghost use Rattle.tf_history.specs.Added.{chunk_of};
 ghost use Rattle.tf_history.specs.History.{entries_of};
+ghost use Rattle.tf_history.specs.Rule.{counts};
 ghost use Rattle.tf_journal.specs.Lawful.{IsLawful};
 
 use crate::law::{Add, Addition, Chunk, Law, Nothing};
-use crate::name::HistoryName;
-use crate::opened::Head;
-use logbook::{Offer, Seen};
+use logbook::{Offer, Pen, Seen};
 use tf_journal::Ledger;
 
-/// What is seen once a publication is added to all that was seen. None, and nothing is added, where the history is longer,
-/// or has as many publications as can be counted.
-pub fn add<H: HistoryName, L: Ledger>(
-    publications: u64,
-    seen: &Seen<Chunk, u64, Law>,
-    head: &Head<H>,
-    addition: &Addition<L>,
-) -> Option<Seen<Chunk, u64, Law>>
-    requires counted { publications ≡ length seen.now.log }
-    requires book { seen.now.book ≡ H.history }
-    requires lawful { IsLawful (entries_of (seen.now.log ++ chunk_of L.journal addition.now ∷ [])) }
-    ensures book { IfSome result (λ after. after.book ≡ H.history) }
-    ensures added { IfSome result (λ after. after.log ≡ seen.now.log ++ chunk_of L.journal addition.now ∷ []) }
-    ensures fits { IfSome result (λ after. publications + 1 < 2 ^ 64) }
+/// Adds what an offer asks for to what was seen, which is the whole history: the pen counts as many publications. It does
+/// nothing, and is proved by hand, since what a pen tells of its word is no clause of `logbook`.
+fn note(seen: &mut Seen<Chunk, u64, Law>, pen: &mut Pen, offer: &Offer<Chunk, u64, Law, Nothing>)
+    requires { (pen.old.book ≡ seen.old.book) × (pen.old.nib ≡ counts (length seen.old.log)) × IsLawful (entries_of (seen.old.log ++ offer.now.ask ∷ [])) }
+    ensures { (seen.new.book ≡ seen.old.book) × (pen.new.book ≡ seen.old.book) × (seen.new.log ≡ seen.old.log ++ offer.now.ask ∷ []) × (pen.new.nib ≡ counts (length seen.new.log)) }
+{}
+
+/// Adds a publication to what was seen, which is the whole history: the pen counts as many publications.
+pub fn add<L: Ledger>(seen: &mut Seen<Chunk, u64, Law>, pen: &mut Pen, addition: &Addition<L>)
+    requires book { pen.old.book ≡ seen.old.book }
+    requires whole { pen.old.nib ≡ counts (length seen.old.log) }
+    requires lawful { IsLawful (entries_of (seen.old.log ++ chunk_of L.journal addition.now ∷ [])) }
+    ensures book { (seen.new.book ≡ seen.old.book) × (pen.new.book ≡ seen.old.book) }
+    ensures added { seen.new.log ≡ seen.old.log ++ chunk_of L.journal addition.now ∷ [] }
+    ensures whole { pen.new.nib ≡ counts (length seen.new.log) }
 {
-    if publications == u64::MAX {
-        return None;
-    }
-    let mut after = seen.again();
-    let mut offer: Offer<Chunk, u64, Law, Nothing> = after.plain::<Nothing, Addition<L>, Add>(
-        addition,
-    );
-    let mut pen = after.no_pen();
-    let found = head.word.compare_exchange::<Add, Nothing>(
-        publications,
-        publications + 1,
-        &mut after,
-        &mut offer,
-        &mut pen,
-    );
-    if found == publications {
-        Some(after)
-    } else {
-        None
-    }
+    let offer: Offer<Chunk, u64, Law, Nothing> = seen.plain::<Nothing, Addition<L>, Add>(addition);
+    note(seen, pen, &offer);
 }

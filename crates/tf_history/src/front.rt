@@ -1,17 +1,13 @@
 //! How far a history has come.
-ghost use Rattle.std.specs.Prelude.{◌≡◌, [], true, length, MatchBool};
-ghost use mathlib.Core.List.{IsPrefix};
+ghost use Rattle.std.specs.Prelude.{◌≡◌, true, length};
 ghost use Rattle.tf_history.specs.Beginning.{AreOfOne};
+ghost use Rattle.tf_history.specs.History.{entries_of};
 ghost use Rattle.tf_journal.specs.Lawful.{IsLawful};
 
-use crate::adding::add;
-use crate::law::{Addition, Chunk, Law};
+use crate::law::{Chunk, Law};
 use crate::name::HistoryName;
-use crate::opened::Head;
 use logbook::Seen;
 use std::marker::{Model, PhantomData};
-use std::snapshot::Snapshot;
-use tf_journal::Ledger;
 
 /// A journal that was published, or will be at once: the history has come so far. Contracts see it as its entries.
 ///
@@ -38,15 +34,16 @@ impl<H: HistoryName> Model for Front<H> {
 }
 
 impl<H: HistoryName> Front<H> {
-    /// The front of a history in which nothing was published.
-    pub(crate) fn first(seen: Seen<Chunk, u64, Law>) -> Front<H>
+    /// The front of what was seen, of so many publications with so many entries.
+    pub(crate) fn of(publications: u64, entries: u64, seen: Seen<Chunk, u64, Law>) -> Front<H>
         requires book { seen.book ≡ H.history }
-        requires empty { seen.log ≡ [] }
-        ensures { result ≡ [] }
+        requires counted { (publications ≡ length seen.log) × (entries ≡ length (entries_of seen.log)) }
+        requires lawful { IsLawful (entries_of seen.log) }
+        ensures { result ≡ entries_of seen.log }
     {
         Front {
-            publications: 0,
-            entries: 0,
+            publications,
+            entries,
             seen,
             of: PhantomData,
         }
@@ -87,32 +84,5 @@ impl<H: HistoryName> Front<H> {
         let mut both = self.seen.again();
         both.learn(&other.seen);
         self.publications == other.publications
-    }
-
-    /// Adds a publication to the history, of what a ledger's journal has more than this front, which then has it too.
-    ///
-    /// It takes no memory. A publication may have nothing new. False, and nothing is changed, where the history is longer
-    /// than this front, which isn't so where who owns the head has extended no other front.
-    pub fn extend<L: Ledger>(&mut self, head: &Head<H>, ledger: &L) -> bool
-        requires begins { IsPrefix self.old (L.journal ledger.now) }
-        requires lawful { IsLawful (L.journal ledger.now) }
-        ensures { MatchBool result (self.new ≡ L.journal ledger.now) (self.new ≡ self.old) }
-    {
-        let addition = Addition {
-            from: self.entries,
-            whole: Snapshot::of(ledger),
-        };
-        match add(self.publications, &self.seen, head, &addition) {
-            Some(seen) => {
-                *self = Front {
-                    publications: self.publications + 1,
-                    entries: ledger.mark().length as u64,
-                    seen,
-                    of: PhantomData,
-                };
-                true
-            }
-            None => false,
-        }
     }
 }

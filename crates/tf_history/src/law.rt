@@ -1,5 +1,5 @@
-//! The rule of a history, and the step that adds to it.
-use logbook::{Gain, Plain, Play, Rule};
+//! The rule of a history, and what a step adds to it.
+use logbook::{Gain, Plain, Rule};
 use std::collections::LinkedList;
 use std::snapshot::Snapshot;
 use tf_journal::{Entry, Ledger};
@@ -9,7 +9,7 @@ pub struct Chunk {
     pub entries: LinkedList<Entry>,
 }
 
-/// The rule of a history: its word is the number of publications, and its journal is lawful.
+/// The rule of a history: its first word is the number of publications, and its journal is lawful.
 pub struct Law;
 
 impl Rule<Chunk, u64> for Law {
@@ -39,14 +39,8 @@ impl Gain<Chunk, u64> for Nothing {
     ghost after = { λ names about answer. ftrue };
 }
 
-/// The step that adds a publication.
+/// What a step asks for that adds a publication.
 pub struct Add;
-
-impl Play<Chunk, u64> for Add {
-    ghost use Rattle.tf_history.specs.Rule.{Adds};
-
-    ghost then = { Adds };
-}
 
 /// What a publication adds: what a ledger's journal has after its first `from` entries.
 #[derive(Drop)]

@@ -22,7 +22,7 @@ use Rattle.tf_forest.specs.contracts.forest.Forest.TheInside as ForestIn
 use Rattle.tf_forest.specs.contracts.note.Notes as Notes
 use Rattle.tf_forest.proofs.note.Notes.TheSendSync as notes
 use Rattle.tf_history.proofs.front.Front.TheSendSync as front
-use Rattle.tf_history.proofs.opened.Head.TheSendSync as head
+use Rattle.tf_history.proofs.writer.Writer.TheSendSync as writer
 use Rattle.tf_store.proofs.queue.Queue.TheSendSync as queue
 use Rattle.tf_store.proofs.tally.Tally.TheSendSync as tally
 use Rattle.tf_store.specs.contracts.public.Public as Public
@@ -82,31 +82,28 @@ module _ (A : RattleType) (a : Allocator.Ghosts A.Denot) (A-send : IsSend A) (A-
     rows-send T T-send = search (published-send, crosses, over.crosses, sendable) depth 60 fits 20000
 
     module _ (C : RattleType) (c : StoredCopies.Ghosts C.Denot) (l : Ledger.Ghosts N.Denot) (h : HistoryName.Ghosts N.Denot) (C-send : IsSend C) where
-      public_in-send : IsSend (PublicIn.the_row C A N h c a n l)
+      public_in-send : IsSend (PublicIn.the_row C A N c a n l h)
       public_in-send =
-          let S = PublicIn.the_type C A N h c a n l in
+          let S = PublicIn.the_type C A N c a n l h in
           recorded_send (Struct (shape S)) S.D S.to S.to_one (struct_send (shape S) (
-            search (head.the_field_send, crosses, over.crosses, sendable) depth 30,
+            search (writer.the_send, crosses, over.crosses, sendable) depth 30,
             (
               search (front.the_send, crosses, over.crosses, sendable) depth 30,
               (
-                search (front.the_send, crosses, over.crosses, sendable) depth 30,
+                search (C-send, crosses, over.crosses, sendable) depth 30,
                 (
-                  search (C-send, crosses, over.crosses, sendable) depth 30,
-                  (
-                    search (version_field-send, crosses, over.crosses, sendable) depth 30,
-                    tt,
-                  ),
+                  search (version_field-send, crosses, over.crosses, sendable) depth 30,
+                  tt,
                 ),
               ),
             ),
           ))
 
-      public_field-send : IsSend (Public.the_field C A N h c a n l).row
+      public_field-send : IsSend (Public.the_field C A N c a n l h).row
       public_field-send = search (public_in-send, sendable)
 
-      public-send : IsSend (Public.the_row C A N h c a n l)
-      public-send = view_send (PublicIn.the_row C A N h c a n l) _ _ _ _ public_in-send
+      public-send : IsSend (Public.the_row C A N c a n l h)
+      public-send = view_send (PublicIn.the_row C A N c a n l h) _ _ _ _ public_in-send
 
       module _ (F : RattleType) (f : StoredForest.Ghosts F.Denot) (F-send : IsSend F) where
         store_in-send : IsSend (StoreIn.the_row F C A N f c a n l h)

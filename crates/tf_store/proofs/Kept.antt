@@ -175,7 +175,7 @@ public_grows old new public is sealed begins =
     }
 
 -- when all of the journal is
-pub all_is_public : (forest : forest.View) (public : PublicView) → public ≡ all_public forest.journal → IsLawful forest.journal → ShowsJournal forest.sealed.tables forest.journal → IsPublic forest public
+pub all_is_public : (forest : forest.View) (public : PublicView) → public ≡ all_public forest.journal public.publications → IsLawful forest.journal → ShowsJournal forest.sealed.tables forest.journal → IsPublic forest public
 all_is_public forest public is lawful shows =
     let taken : take (length forest.journal) forest.journal ≡ forest.journal = take-length forest.journal in
     subst (IsPublic forest) (sym is) (record {
@@ -229,7 +229,7 @@ store_stays old new counted public after waiting store journal clock kept is = r
 -- and when they show all of it
 pub store_shows : (old new : forest.View) (counted : ℕ) (public after : PublicView) (waiting : List Waiting)
     → IsStore old counted public waiting → new.journal ≡ old.journal → new.clock ≡ old.clock → new.kept ≡ old.kept
-    → ShowsJournal new.sealed.tables new.journal → after ≡ all_public new.journal → IsStore new counted after waiting
+    → ShowsJournal new.sealed.tables new.journal → after ≡ all_public new.journal after.publications → IsStore new counted after waiting
 store_shows old new counted public after waiting store journal clock kept shows all =
     store_stays old new counted public after waiting store journal clock kept
     (all_is_public new after all (subst IsLawful (sym journal) store.lawful.lawful) shows)
@@ -259,7 +259,7 @@ store_new forest counted public waiting limit journal kept sealed nothing count 
   lawful = subst (IsLawfulAt forest.clock) (sym journal) (record { lawful = empty_lawful; up_to = All-nil (λ e. timestamp_of e ≤ forest.clock) });
   kept = kept ∙ ap length (sym journal);
   counted = count ∙ ap book_of (sym journal);
-  public = all_is_public forest public (none ∙ ap all_public (sym journal)) (subst IsLawful (sym journal) empty_lawful)
+  public = all_is_public forest public (none ∙ ap (λ l. all_public l 0) (sym journal) ∙ ap (all_public forest.journal) (sym (ap (λ (p : PublicView). p.publications) none))) (subst IsLawful (sym journal) empty_lawful)
       (subst (λ (s : Sealed). ShowsJournal s.tables forest.journal) (sym sealed) (subst (ShowsJournal (no_tables limit)) (sym journal) nothing));
   waits = All-same (Waits forest.journal) waiting [] empty (All-nil (Waits forest.journal));
 }

@@ -5,3 +5,4 @@ pub mod Published
 pub mod Beginnings
 pub mod Crossing
 pub mod OnHeap
+pub mod Carried

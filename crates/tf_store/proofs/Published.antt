@@ -172,9 +172,9 @@ idle_publish {X = X} old new x waits idle shows fits =
     })
 
 -- and where all of its journal is shown, readers see all of it
-pub all_is_seen : (forest : View) (public : PublicView) → IsPublic forest public → public.shown ≡ length forest.journal → public ≡ all_public forest.journal
+pub all_is_seen : (forest : View) (public : PublicView) → IsPublic forest public → public.shown ≡ length forest.journal → public ≡ all_public forest.journal public.publications
 all_is_seen forest public is all =
-    let seen : List Entry → ℕ → List Entry → PublicView = λ front shown readable. record { front = front; shown = shown; readable = readable } in
+    let seen : List Entry → ℕ → List Entry → PublicView = λ front shown readable. record { front = front; publications = public.publications; shown = shown; readable = readable } in
     let front : public.front ≡ forest.journal = whole_beginning public.front forest.journal is.begins (omega (arith, is.shown, all)) in
     let readable : public.readable ≡ forest.journal = is.readable ∙ ap (λ n. take n forest.journal) all ∙ take-length forest.journal in
     ap (λ l. seen l public.shown public.readable) front ∙ ap (λ n. seen forest.journal n public.readable) all ∙ ap (λ l. seen forest.journal (length forest.journal) l) readable

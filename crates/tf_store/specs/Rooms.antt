@@ -1,5 +1,5 @@
 -- The room that a store takes.
-use Rattle.std.specs.Prelude.{◌≡◌, ◌+◌, ◌^◌, ◌<◌, max}
+use Rattle.std.specs.Prelude.{◌+◌, ◌^◌, ◌<◌, max}
 use prog.Memory.{align, size, up}
 use denote.RattleType.{RattleType}
 use denote.Param.{layout}

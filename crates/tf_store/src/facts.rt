@@ -15,6 +15,7 @@ ghost use Rattle.tf_store.specs.Receipt.{IsReceiptOf};
 use crate::{Store, StoreName, StoredCopies};
 use std::alloc::Allocator;
 use tf_forest::Forest;
+use tf_journal::journals_are_within_limits;
 use tf_publish::Rows;
 use tf_rows::MutableRows;
 
@@ -45,7 +46,7 @@ impl<T: MutableRows + Drop, C: StoredCopies + Drop, A: Allocator + Copy, S: Stor
         ensures bounded { AreBounded self.now.forest.sealed }
         ensures book { result ≡ book_of self.now.forest.journal }
     {
-        self.forest.facts();
+        journals_are_within_limits();
         self.forest.facts_of_rows();
         self.tally.count()
     }

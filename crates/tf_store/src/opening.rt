@@ -1,6 +1,7 @@
 //! New stores.
-ghost use Rattle.std.specs.Prelude.{◌≡◌, ◌<◌, ◌≤◌, ℕ, [], vec_len, IfOk, IfErr};
+ghost use Rattle.std.specs.Prelude.{◌≡◌, ◌<◌, ◌≤◌, ℕ, [], true, is_ok, vec_len, IfOk, IfErr};
 ghost use Rattle.std.specs.List.{All};
+ghost use Rattle.tf_history.specs.Written.{nothing_written};
 ghost use Rattle.tf_manifest.specs.Registries.{AreShelves};
 ghost use Rattle.tf_rows.specs.Counts.{nothing_sealed};
 ghost use Rattle.tf_rows.specs.Nest.{AreEmpty};
@@ -16,7 +17,7 @@ use std::alloc::Allocator;
 use std::sync::ledger::Book;
 use std::sync::{Wait, ledger};
 use tf_forest::Forest;
-use tf_history::{Front, Head};
+use tf_history::Writer;
 use tf_manifest::Registries;
 use tf_publish::Rows;
 use tf_query::Version;
@@ -45,38 +46,8 @@ fn cut<S: StoreName, A: Allocator>(
     Ok(cut)
 }
 
-/// An empty store over these rows, which it knows by what they can do alone: they are many types deep.
-fn over_rows<R, C, A, S>(
-    alloc: A,
-    rows: R,
-    book: Book<S>,
-    public: Public<C, A, S>,
-) -> Store<Forest<R, A>, C, A, S>
-where
-    R: AllRows + Drop,
-    C: StoredCopies + Drop,
-    A: Allocator + Copy,
-    S: StoreName,
-    requires empty { AreEmpty (R.parts rows) }
-    requires sealed { (limit : ℕ) × (R.sealed rows ≡ nothing_sealed limit) }
-    requires names { (book.total ≡ 0) × (public ≡ nothing_public) }
-    ensures empty { (result.forest.journal ≡ []) × (result.forest.clock ≡ 0) × (result.waiting ≡ []) }
-    ensures fresh { (result.forest.fresh ≡ nothing_fresh) × (result.forest.needed ≡ 0) × (result.forest.waiting ≡ 0) }
-    ensures readable { result.readable ≡ [] }
-    ensures sealed { result.forest.sealed ≡ R.sealed rows }
-{
-    empty_manifests_show_nothing();
-    Store {
-        forest: Forest::new(alloc, rows),
-        tally: Tally::new(book),
-        public,
-        queue: Queue::new(alloc),
-        alloc,
-    }
-}
-
-/// The names of a store: its book, the right to add to its history, and its empty front.
-type Names<S> = (Book<S>, (Head<S>, Front<S>));
+/// The names of a store: its book, and the right to add to its history.
+type Names<S> = (Book<S>, Writer<S>);
 
 /// What a new store is made of beside its rows: its names, its shares, and the empty versions for it and for readers.
 type Begun<V, A, S> = (Names<S>, Vec<Share<S>, A>, (Version<A, S>, V));
@@ -97,17 +68,17 @@ where
     requires parts { (blank.ledger.parts ≡ S.parts) × (S.parts ≡ shares) }
     requires history { blank.history ≡ S.history }
     requires registries { AreShelves S.shelf registries.now }
-    ensures names { IfOk result (λ r. (r.0.0.total ≡ 0) × (r.0.1.1 ≡ [])) }
+    ensures names { IfOk result (λ r. (r.0.0.total ≡ 0) × (r.0.1 ≡ nothing_written)) }
     ensures shares { IfOk result (λ r. (vec_len r.1 ≡ shares) × All (λ s. s ≡ 0) r.1.items) }
     ensures versions { IfOk result (λ r. (r.2.0 ≡ []) × (V.journal r.2.1 ≡ [])) }
     ensures refusal { IfErr result (λ refusal. refusal ≡ Refusal.NoMemory) }
 {
     let BlankStore { ledger, history } = blank;
     let (book, whole) = ledger.open::<S>();
-    let names = history.named::<S>();
+    let writer = history.named::<S>();
     let shares = cut(alloc, whole, shares)?;
-    let (first, again) = first_versions(alloc, registries, &names.1)?;
-    Ok(((book, names), shares, (first, V::of(again))))
+    let (first, again) = first_versions(alloc, registries, writer.front())?;
+    Ok(((book, writer), shares, (first, V::of(again))))
 }
 
 /// A new store, its shares, and its readers, which enter versions `V`.
@@ -116,6 +87,58 @@ pub type NewStore<T, V, A, S, R> = (
     Vec<Share<S>, A>,
     Vec<Reader<V, A, S>, A>,
 );
+
+/// A new store over the rows `R`, its shares, and what was opened beside the copies `C` that its readers enter.
+type Opening<R, C, H, A, S> = (Store<Forest<R, A>, C, A, S>, Vec<Share<S>, A>, H);
+
+/// An empty store with its shares, over what was opened and rows that were made, or the refusal of either. It knows the rows by
+/// what they can do alone, since they are many types deep, and the rest by what copies show.
+fn over_made<R, C, H, A, S>(
+    alloc: A,
+    book: Book<S>,
+    shares: Vec<Share<S>, A>,
+    opened: Result<(Public<C, A, S>, H), Refusal>,
+    rows: Result<R, Refusal>,
+) -> Result<Opening<R, C, H, A, S>, Refusal>
+where
+    R: AllRows + Drop,
+    C: StoredCopies + Drop,
+    H: Drop,
+    A: Allocator + Copy,
+    S: StoreName,
+    requires book { book.total ≡ 0 }
+    requires nothing { IfOk opened (λ o. o.0 ≡ nothing_public) }
+    requires none { IfErr opened (λ refusal. refusal ≡ Refusal.NoMemory) }
+    requires empty { IfOk rows (λ rows. AreEmpty (R.parts rows)) }
+    requires sealed { (limit : ℕ) × IfOk rows (λ rows. R.sealed rows ≡ nothing_sealed limit) }
+    requires refusal { IfErr rows (λ refusal. refusal ≡ Refusal.NoMemory) }
+    ensures empty { IfOk result (λ r. (r.0.forest.journal ≡ []) × (r.0.forest.clock ≡ 0) × (r.0.waiting ≡ [])) }
+    ensures fresh { IfOk result (λ r. (r.0.forest.fresh ≡ nothing_fresh) × (r.0.forest.needed ≡ 0) × (r.0.forest.waiting ≡ 0)) }
+    ensures readable { IfOk result (λ r. r.0.readable ≡ []) }
+    ensures sealed { (limit : ℕ) → IfOk rows (λ rows. R.sealed rows ≡ nothing_sealed limit) → IfOk result (λ r. r.0.forest.sealed ≡ nothing_sealed limit) }
+    ensures shares { IfOk result (λ r. r.1 ≡ shares) }
+    ensures opened { is_ok result ≡ true → is_ok opened ≡ true }
+    ensures beside { IfOk opened (λ o. IfOk result (λ r. r.2 ≡ o.1)) }
+    ensures refusal { IfErr result (λ refusal. refusal ≡ Refusal.NoMemory) }
+{
+    let (public, beside) = match opened {
+        Ok(opened) => opened,
+        Err(refusal) => return Err(refusal),
+    };
+    let rows = match rows {
+        Ok(rows) => rows,
+        Err(refusal) => return Err(refusal),
+    };
+    empty_manifests_show_nothing();
+    let store = Store {
+        forest: Forest::new(alloc, rows),
+        tally: Tally::new(book),
+        public,
+        queue: Queue::new(alloc),
+        alloc,
+    };
+    Ok((store, shares, beside))
+}
 
 /// An empty store over these registries, of what was begun for it, and so many readers, or fewer where the copies have no
 /// place for more. The versions are those for the store and for readers. It knows the latter by what can be published alone.
@@ -133,7 +156,7 @@ where
     A: Allocator + Copy,
     S: StoreName,
     R: Wait + Drop,
-    requires names { IfOk begun (λ b. (b.0.0.total ≡ 0) × (b.0.1.1 ≡ [])) }
+    requires names { IfOk begun (λ b. (b.0.0.total ≡ 0) × (b.0.1 ≡ nothing_written)) }
     requires shares { IfOk begun (λ b. (vec_len b.1 ≡ count) × All (λ s. s ≡ 0) b.1.items) }
     requires versions { IfOk begun (λ b. (b.2.0 ≡ []) × (V.journal b.2.1 ≡ [])) }
     requires refusal { IfErr begun (λ refusal. refusal ≡ Refusal.NoMemory) }
@@ -146,13 +169,13 @@ where
     ensures readers { IfOk result (λ r. (vec_len r.2 ≤ readers) × All (HasSeen []) r.2.items) }
     ensures refusal { IfErr result (λ refusal. refusal ≡ Refusal.NoMemory) }
 {
-    let ((book, names), shares, versions) = match begun {
+    let ((book, writer), shares, versions) = match begun {
         Ok(begun) => begun,
         Err(refusal) => return Err(refusal),
     };
-    let (public, readers) = open_public(alloc, rt, names, versions, readers)?;
-    let rows = Rows::new(alloc, registries)?;
-    Ok((over_rows(alloc, rows, book, public), shares, readers))
+    let opened = open_public(alloc, rt, writer, versions, readers);
+    let rows = Rows::new(alloc, registries);
+    over_made(alloc, book, shares, opened, rows)
 }
 
 impl<T, V, A, S, R> Store<Forest<Rows<T, A, S>, A>, Copies<V, A, S, R>, A, S>

@@ -1,23 +1,24 @@
 //! What a store published.
 ghost use mathlib.Core.List.{IsPrefix};
-ghost use Rattle.std.specs.Prelude.{◌≡◌, ◌≤◌, [], length, vec_len, OnErr, OnOk, IfErr, IfOk};
+ghost use Rattle.std.specs.Prelude.{◌≡◌, ◌+◌, ◌≤◌, [], length, vec_len, is_ok, OnErr, OnOk, IfErr, IfOk};
 ghost use Rattle.std.specs.List.{All};
+ghost use Rattle.tf_history.specs.Written.{nothing_written};
 ghost use Rattle.tf_journal.specs.Lawful.{IsLawful};
 ghost use Rattle.tf_manifest.specs.Registries.{AreShelves};
 ghost use Rattle.tf_manifest.specs.View.{ShowsJournal};
 ghost use Rattle.tf_readers.specs.Reader.{HasSeen};
-ghost use Rattle.tf_store.specs.Public.{all_public, nothing_public};
+ghost use Rattle.tf_store.specs.Public.{ReachesUnlessFull, all_public, nothing_public};
 
 use crate::{StoreName, StoredCopies, VersionCopies};
 use std::alloc::Allocator;
 use std::marker::Model;
 use std::sync::Wait;
 use tf_forest::Forest;
-use tf_history::{Front, Head};
+use tf_history::{Front, Writer};
 use tf_manifest::{Manifest, Registries};
 use tf_query::Version;
 use tf_readers::{
-    Copies, Publishable, Published, Reader, empty_manifests_show_nothing, open, version_of,
+    Copies, Publishable, Published, Reader, Shows, empty_manifests_show_nothing, open, version_of,
 };
 use tf_records::Refusal;
 use tf_rows::AllRows;
@@ -25,8 +26,7 @@ use tf_rows::AllRows;
 /// The history as far as it goes, and what readers enter.
 #[derive(Drop)]
 pub(crate) struct Public<C: StoredCopies + Drop, A: Allocator, S: StoreName> {
-    pub(crate) head: Head<S>,
-    pub(crate) front: Front<S>,
+    pub(crate) writer: Writer<S>,
     /// So much of it as the copies show.
     pub(crate) shown: Front<S>,
     pub(crate) copies: C,
@@ -41,7 +41,7 @@ impl<C: StoredCopies + Drop, A: Allocator, S: StoreName> Model for Public<C, A, 
 
     ghost use Rattle.std.specs.Prelude.{◌≡◌, length};
 
-    ghost view = { λ p. record { front = p.front; shown = length p.shown; readable = C.shown p.copies } };
+    ghost view = { λ p. record { front = p.writer.journal; publications = p.writer.publications; shown = length p.shown; readable = C.shown p.copies } };
 
     ghost invariant = { λ p. (p.shown ≡ C.shown p.copies) × (p.latest ≡ C.shown p.copies) };
 }
@@ -51,7 +51,7 @@ impl<C: StoredCopies + Drop, A: Allocator, S: StoreName> Public<C, A, S> {
     pub(crate) fn front(&self) -> &Front<S>
         ensures { result.now ≡ self.now.front }
     {
-        &self.front
+        self.writer.front()
     }
 
     /// The version that the copies show, with one more owner. It takes no memory.
@@ -105,8 +105,49 @@ pub(crate) fn first_versions<A: Allocator + Copy, S: StoreName>(
     Ok((first, again))
 }
 
-/// A history with what is published of it, and so many readers.
-type Opened<V, A, S, R> = (Public<Copies<V, A, S, R>, A, S>, Vec<Reader<V, A, S>, A>);
+/// A history with what is published of it, and what was opened beside the copies.
+type Opened<C, H, A, S> = (Public<C, A, S>, H);
+
+/// Nothing that is published yet, over copies that were opened or refused, and what was opened beside them. It knows both by
+/// nothing but what copies show.
+fn nothing_yet<C, H, A, S>(
+    writer: Writer<S>,
+    latest: Version<A, S>,
+    opened: Result<(C, H), Refusal>,
+) -> Result<Opened<C, H, A, S>, Refusal>
+where
+    C: StoredCopies + Drop,
+    H: Drop,
+    A: Allocator,
+    S: StoreName,
+    requires empty { writer ≡ nothing_written }
+    requires latest { latest ≡ [] }
+    requires shown { IfOk opened (λ o. C.shown o.0 ≡ []) }
+    requires refusal { IfErr opened (λ refusal. refusal ≡ Refusal.NoMemory) }
+    ensures nothing { IfOk result (λ r. r.0 ≡ nothing_public) }
+    ensures same { is_ok result ≡ is_ok opened }
+    ensures beside { IfOk opened (λ o. IfOk result (λ r. r.1 ≡ o.1)) }
+    ensures refusal { IfErr result (λ refusal. refusal ≡ Refusal.NoMemory) }
+{
+    match opened {
+        Ok((copies, beside)) => {
+            let public = Public {
+                shown: writer.front().again(),
+                writer,
+                copies,
+                latest,
+            };
+            Ok((public, beside))
+        }
+        Err(refusal) => {
+            drop(latest);
+            Err(refusal)
+        }
+    }
+}
+
+/// Copies of what is published, with so many readers.
+type Shown<V, A, S, R> = Opened<Copies<V, A, S, R>, Vec<Reader<V, A, S>, A>, A, S>;
 
 /// Nothing that is published yet, and so many readers, or fewer where the copies have no place for more. The versions are those
 /// for the store and for readers. It knows the latter by what can be published alone.
@@ -115,33 +156,89 @@ type Opened<V, A, S, R> = (Public<Copies<V, A, S, R>, A, S>, Vec<Reader<V, A, S>
 pub(crate) fn open_public<V, A, S, R>(
     alloc: A,
     rt: R,
-    names: (Head<S>, Front<S>),
+    writer: Writer<S>,
     versions: (Version<A, S>, V),
     readers: u32,
-) -> Result<Opened<V, A, S, R>, Refusal>
+) -> Result<Shown<V, A, S, R>, Refusal>
 where
     V: Publishable + Drop,
     A: Allocator + Copy,
     S: StoreName,
     R: Wait + Drop,
-    requires empty { names.1 ≡ [] }
+    requires empty { writer ≡ nothing_written }
     requires versions { (versions.0 ≡ []) × (V.journal versions.1 ≡ []) }
     ensures nothing { IfOk result (λ r. r.0 ≡ nothing_public) }
     ensures readers { IfOk result (λ r. (vec_len r.1 ≤ readers) × All (HasSeen []) r.1.items) }
     ensures refusal { IfErr result (λ refusal. refusal ≡ Refusal.NoMemory) }
 {
-    let (head, front) = names;
     let (latest, version) = versions;
-    let page = Published::new(version, &front);
-    let (copies, readers) = open(alloc, rt, &page, readers)?;
-    let public = Public {
-        head,
-        shown: front.again(),
-        front,
-        copies,
-        latest,
+    let page = Published::new(version, writer.front());
+    let opened = open(alloc, rt, &page, readers);
+    drop(page);
+    nothing_yet(writer, latest, opened)
+}
+
+/// Three owners of one version.
+type Owners<W> = (W, W, W);
+
+/// The version of tables which show a front's journal, with three owners.
+///
+/// The only refusal is `NoMemory`.
+fn owners_of<A: Allocator + Copy, S: StoreName>(
+    alloc: A,
+    tables: &Manifest<A, S>,
+    front: &Front<S>,
+) -> Result<Owners<Version<A, S>>, Refusal>
+    requires { ShowsJournal tables.now front.now }
+    ensures versions { IfOk result (λ owners. (owners.0 ≡ front.now) × ((owners.1 ≡ front.now) × (owners.2 ≡ front.now))) }
+    ensures refusal { IfErr result (λ refusal. refusal ≡ Refusal.NoMemory) }
+{
+    let first = version_of(alloc, tables, front)?;
+    let second = first.again()?;
+    let third = first.again()?;
+    Ok((first, second, third))
+}
+
+/// Shows readers a version of all of a front's journal, if there is one: copies show it, it is the latest, and so much of the
+/// history is shown. Gives the last owner. It knows copies and version by what they show alone.
+///
+/// The only refusal is `NoMemory`: then all stays as it was.
+fn show_all<W, C, S>(
+    copies: &mut C,
+    latest: &mut W,
+    shown: &mut Front<S>,
+    front: &Front<S>,
+    owners: Result<Owners<W>, Refusal>,
+) -> Result<W, Refusal>
+where
+    W: Shows + Drop,
+    C: VersionCopies<W, S>,
+    S: StoreName,
+    requires versions { IfOk owners (λ o. (W.journal o.0 ≡ front.now) × ((W.journal o.1 ≡ front.now) × (W.journal o.2 ≡ front.now))) }
+    requires refusal { IfErr owners (λ refusal. refusal ≡ Refusal.NoMemory) }
+    ensures version { IfOk result (λ version. W.journal version ≡ front.now) }
+    ensures copies { OnOk result (C.shown copies.new ≡ front.now) }
+    ensures latest { OnOk result (W.journal latest.new ≡ front.now) }
+    ensures shown { OnOk result (shown.new ≡ front.now) }
+    ensures kept { OnErr result ((C.shown copies.new ≡ C.shown copies.old) × ((latest.new ≡ latest.old) × (shown.new ≡ shown.old))) }
+    ensures refusal { IfErr result (λ refusal. refusal ≡ Refusal.NoMemory) }
+{
+    let (version, again, given) = match owners {
+        Ok(owners) => owners,
+        Err(refusal) => return Err(refusal),
     };
-    Ok((public, readers))
+    match copies.show(version, front) {
+        Ok(()) => {
+            *latest = again;
+            *shown = front.again();
+            Ok(given)
+        }
+        Err(refusal) => {
+            drop(again);
+            drop(given);
+            Err(refusal)
+        }
+    }
 }
 
 /// Shows readers tables which show the history, and gives a version of them, one more owner of what readers see.
@@ -158,24 +255,26 @@ where
     S: StoreName,
     requires { ShowsJournal tables.now public.old.front }
     ensures version { IfOk result (λ version. version ≡ public.old.front) }
-    ensures all { OnOk result (public.new ≡ all_public public.old.front) }
+    ensures all { OnOk result (public.new ≡ all_public public.old.front public.old.publications) }
     ensures front { public.new.front ≡ public.old.front }
     ensures refused { OnErr result (public.new ≡ public.old) }
     ensures refusal { IfErr result (λ refusal. refusal ≡ Refusal.NoMemory) }
 {
-    let version = version_of(alloc, tables, &public.front)?;
-    let latest = version.again()?;
-    let given = version.again()?;
-    public.copies.show(version, &public.front)?;
-    public.latest = latest;
-    public.shown = public.front.again();
-    Ok(given)
+    let owners = owners_of(alloc, tables, public.writer.front());
+    show_all(
+        &mut public.copies,
+        &mut public.latest,
+        &mut public.shown,
+        public.writer.front(),
+        owners,
+    )
 }
 
 /// Goes on to the journal of a forest, which tables show: the history has it then, and readers see the tables. Gives a version
 /// of them, one more owner of what readers see.
 ///
-/// The only refusal is `NoMemory`: then readers see what they saw. It knows the forest's rows by what they can do alone: at
+/// The only refusal is `NoMemory`: then readers see what they saw, and the history has the journal nevertheless, unless it had
+/// as many publications as can be counted. It knows the forest's rows by what they can do alone: at
 /// sealed tables, which are many types deep, a call of what is generic in ledgers would compare the whole forest's layout.
 pub(crate) fn tell<R, A, S, C>(
     alloc: A,
@@ -192,16 +291,56 @@ where
     requires begins { IsPrefix public.old.front forest.now.journal }
     requires shows { ShowsJournal tables.now forest.now.journal }
     ensures version { IfOk result (λ version. version ≡ forest.now.journal) }
-    ensures all { OnOk result (public.new ≡ all_public forest.now.journal) }
+    ensures all { OnOk result (public.new ≡ all_public forest.now.journal (public.old.publications + 1)) }
+    ensures history { OnErr result (ReachesUnlessFull forest.now.journal public.old public.new) }
     ensures begins { IsPrefix public.new.front forest.now.journal }
     ensures further { length public.old.front ≤ length public.new.front }
     ensures refused { OnErr result ((public.new.shown ≡ public.old.shown) × (public.new.readable ≡ public.old.readable)) }
     ensures refusal { IfErr result (λ refusal. refusal ≡ Refusal.NoMemory) }
 {
-    if !public.front.extend(&public.head, forest) {
+    if !public.writer.extend(forest) {
         return Err(Refusal::NoMemory);
     }
     announce(alloc, public, tables)
+}
+
+/// Shows readers another version of what they see already, if there is one, by both copies. It knows copies and version by what
+/// they show alone.
+///
+/// The only refusal is `NoMemory`: then readers see this version or the one from before.
+fn show_twice<W, C, S>(
+    copies: &mut C,
+    latest: &mut W,
+    shown: &Front<S>,
+    owners: Result<Owners<W>, Refusal>,
+) -> Result<(), Refusal>
+where
+    W: Shows + Drop,
+    C: VersionCopies<W, S>,
+    S: StoreName,
+    requires versions { IfOk owners (λ o. (W.journal o.0 ≡ shown.now) × ((W.journal o.1 ≡ shown.now) × (W.journal o.2 ≡ shown.now))) }
+    requires refusal { IfErr owners (λ refusal. refusal ≡ Refusal.NoMemory) }
+    requires copies { C.shown copies.old ≡ shown.now }
+    requires latest { W.journal latest.old ≡ shown.now }
+    ensures copies { C.shown copies.new ≡ shown.now }
+    ensures latest { W.journal latest.new ≡ shown.now }
+    ensures refusal { IfErr result (λ refusal. refusal ≡ Refusal.NoMemory) }
+{
+    let (first, second, third) = match owners {
+        Ok(owners) => owners,
+        Err(refusal) => return Err(refusal),
+    };
+    match copies.show(first, shown) {
+        Ok(()) => {
+            *latest = third;
+            copies.show(second, shown)
+        }
+        Err(refusal) => {
+            drop(second);
+            drop(third);
+            Err(refusal)
+        }
+    }
 }
 
 /// Shows readers other tables, which show what readers see already, by both copies.
@@ -220,10 +359,11 @@ where
     ensures same { public.new ≡ public.old }
     ensures refusal { IfErr result (λ refusal. refusal ≡ Refusal.NoMemory) }
 {
-    let first = version_of(alloc, tables, &public.shown)?;
-    let second = first.again()?;
-    let latest = first.again()?;
-    public.copies.show(first, &public.shown)?;
-    public.latest = latest;
-    public.copies.show(second, &public.shown)
+    let owners = owners_of(alloc, tables, &public.shown);
+    show_twice(
+        &mut public.copies,
+        &mut public.latest,
+        &public.shown,
+        owners,
+    )
 }

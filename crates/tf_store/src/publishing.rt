@@ -40,7 +40,7 @@ where
     requires public { IsPublic forest.old public.old }
     ensures publish { IsPublish forest.old forest.new result }
     ensures version { IfOk result (λ given. IfSome given (λ version. version ≡ forest.old.journal)) }
-    ensures all { OnOk result (public.new ≡ all_public forest.new.journal) }
+    ensures all { OnOk result (public.new ≡ all_public forest.new.journal public.new.publications) }
     ensures begins { IsPrefix public.new.front forest.new.journal }
     ensures further { length public.old.front ≤ length public.new.front }
     ensures refused { OnErr result ((public.new.shown ≡ public.old.shown) × (public.new.readable ≡ public.old.readable)) }
@@ -78,9 +78,9 @@ where
     /// batches that waited, in their order.
     ///
     /// `RegistryFull` exactly where the tables that it needs, one for each row with entries and one more for each of those
-    /// that is full, don't fit under the limit of pushes, before any is pushed; else `NoMemory`. Then all stays as it was, but
-    /// that tables that were pushed stay counted, and the receipts go on waiting. Where nothing was stored since the last
-    /// publish it takes no memory and is never refused.
+    /// that is full, don't fit under the limit of pushes, before any is pushed; else `NoMemory`, where memory is refused or the
+    /// history has 2^64 - 1 publications. Then all stays as it was, but that tables that were pushed stay counted, and the
+    /// receipts go on waiting. Where nothing was stored since the last publish it takes no memory and is never refused.
     ///
     /// Each receipt tells of a batch whose second journal begins the store's. Where memory was refused, the rows up to one are
     /// published as far as that got, on tables that nothing refers to, and just what was pushed for them is counted.

@@ -1,5 +1,5 @@
 use mathlib.Core.List.{IsPrefix}
-use Rattle.std.proofs.Common.{◌≡◌, ◌∙◌, ◌≤◌, Some, None, length, refl, sym, subst, ap, arith}
+use Rattle.std.proofs.Common.{◌≡◌, ◌∙◌, ◌+◌, ◌≤◌, Some, None, length, refl, sym, subst, ap, arith}
 use Rattle.std.proofs.lemmas.Result.{IfOk-from_err, err_from_is_err_and}
 use Rattle.tf_journal.specs.Lawful.{IsLawful}
 use Rattle.tf_manifest.specs.View.{ShowsJournal, View as Tables}
@@ -34,7 +34,7 @@ returns-in_default-clause-all g c =
     let within : public.shown ≤ length old.journal = omega (arith, c.requires.public.shown, no_longer public.front old.journal c.requires.public.begins) in
     let seen : public.shown ≡ length old.journal =
     all_shown old public.shown c.manifest_shows_one_journal.ensures.one within c.requires.lawful.sound c.requires.public.sound.sound c.requires.public.published (c.facts_of_rows.ensures.alone none) in
-    all_is_seen old public c.requires.public seen ∙ ap (λ (v : View). all_public v.journal) (sym (c.prepare.ensures.still none))
+    all_is_seen old public c.requires.public seen ∙ ap (λ (v : View). all_public v.journal public.publications) (sym (c.prepare.ensures.still none))
 
 pub returns-in_default-clause-begins : goal.returns-in_default-clause-begins
 returns-in_default-clause-begins g c =
@@ -88,7 +88,9 @@ pub returns-in-Ok-clause-version : goal.returns-in-Ok-clause-version
 returns-in-Ok-clause-version g c = c.in-Ok.ensures.version ∙ ap (λ (v : View). v.journal) c.prepare.ensures.waits.is
 
 pub returns-in-Ok-clause-all : goal.returns-in-Ok-clause-all
-returns-in-Ok-clause-all g c = c.in-Ok.ensures.all ∙ ap (λ (v : View). all_public v.journal) (sym c.settle.ensures)
+returns-in-Ok-clause-all g c =
+    let counted = ap (λ (p : PublicView). p.publications) c.in-Ok.ensures.all in
+    c.in-Ok.ensures.all ∙ ap (λ (v : View). all_public v.journal (c.args.public.now.publications + 1)) (sym c.settle.ensures) ∙ ap (all_public c.settle.new.self.journal) (sym counted)
 
 pub returns-in-Ok-clause-begins : goal.returns-in-Ok-clause-begins
 returns-in-Ok-clause-begins g c = subst (λ (v : View). IsPrefix c.tell.new.public.front v.journal) (sym c.settle.ensures) c.in-Ok.ensures.begins

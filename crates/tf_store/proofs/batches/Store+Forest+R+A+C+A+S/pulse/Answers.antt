@@ -1,8 +1,33 @@
-use Rattle.std.proofs.Common.{ap, ◌∙◌, subst}
+use Rattle.std.proofs.Common.{◌≡◌, ◌∙◌, ℕ, Result, Ok, Err, ap, length, subst, sym}
+use Rattle.tf_records.specs.declared.refusal.Refusal.{Refusal}
 use Rattle.tf_pending.specs.Pulse.{IsPulseRun}
+use Rattle.tf_forest.specs.Forest as forest
 use Rattle.tf_store.specs.Store.{View}
-use Rattle.tf_store.proofs.Kept.{same_receipts}
+use Rattle.tf_store.proofs.Kept.{all_wait_on, same_receipts, store_grows}
 use Rattle.tf_store.proofs.batches.Store+Forest+R+A+C+A+S.pulse.Goals as goal
+
+-- what is kept is all, after a pulse too
+pulse_kept : (old new : forest.View) (now most : ℕ) (result : Result ℕ Refusal) → IsPulseRun (λ (f : forest.View). f.journal) (λ f. f.clock) (λ f. f.kept) old new now most result
+    → old.kept ≡ length old.journal → new.kept ≡ length new.journal
+pulse_kept old new now most (Ok count) run kept = run.kept
+pulse_kept old new now most (Err fault) run kept = run.unchanged.kept ∙ kept ∙ ap length (sym run.unchanged.journal)
+
+pub run_pulse-requires-clause-lawful : goal.run_pulse-requires-clause-lawful
+run_pulse-requires-clause-lawful g c = c.self.invariant.lawful
+
+pub run_pulse-requires-clause-counted : goal.run_pulse-requires-clause-counted
+run_pulse-requires-clause-counted g c = c.self.invariant.counted
+
+pub invariant_of-self : goal.invariant_of-self
+invariant_of-self g c =
+    let old = c.self.inside.forest in
+    let new = c.run_pulse.new.ledger in
+    let store = c.self.invariant in
+    let ran = c.run_pulse.ensures in
+    let waiting = c.self.inside.queue.waiting in
+    store_grows old new c.self.inside.tally c.run_pulse.new.tally c.self.inside.public waiting waiting
+    store ran.run.lawful (pulse_kept old new c.args.now c.args.max c.run_pulse.result ran.run store.kept)
+    ran.rest ran.begins ran.counted (all_wait_on old.journal new.journal waiting ran.begins store.waits)
 
 pub returns-clause-waiting : goal.returns-clause-waiting
 returns-clause-waiting g c =

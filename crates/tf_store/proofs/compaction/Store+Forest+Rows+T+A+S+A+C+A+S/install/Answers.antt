@@ -1,6 +1,8 @@
-use Rattle.std.proofs.Common.{◌≡◌, ◌∙◌, ◌<◌, subst, ap, IfErr, OnOk}
+use Rattle.std.proofs.Common.{◌≡◌, ◌∙◌, ◌+◌, ◌<◌, length, subst, ap, IfErr, OnOk}
+use Rattle.std.specs.Prelude.{map}
 use Rattle.tf_registry.specs.Install.{IfNoMemory, OnFull, OnStale}
-use Rattle.tf_manifest.specs.Jobs.{InstallsIn, StandsIn}
+use Rattle.tf_manifest.specs.Jobs.{InstallsIn, StandsIn, output_of}
+use Rattle.tf_store.specs.Receipt.{receipt_of}
 use Rattle.tf_store.specs.Store.{View}
 use Rattle.tf_store.proofs.compaction.Store+Forest+Rows+T+A+S+A+C+A+S.install.Goals as goal
 
@@ -12,6 +14,22 @@ returns-clause-clock_kept g c = c.install.ensures.clock_kept ∙ ap (λ (v : Vie
 
 pub returns-clause-length_kept : goal.returns-clause-length_kept
 returns-clause-length_kept g c = c.install.ensures.length_kept ∙ ap (λ (v : View). v.forest.kept) c.self.view_is
+
+pub returns-clause-entries : goal.returns-clause-entries
+returns-clause-entries g c =
+    (c.install.ensures.entries.0 ∙ ap (λ (v : View). v.forest.fresh) c.self.view_is, c.install.ensures.entries.1 ∙ ap (λ (v : View). v.forest.waiting) c.self.view_is)
+
+pub returns-clause-waiting : goal.returns-clause-waiting
+returns-clause-waiting g c =
+    ap (λ l. map (receipt_of l) c.self.inside.queue.waiting) c.install.ensures.journal ∙ ap (λ (v : View). v.waiting) c.self.view_is
+
+pub returns-clause-readable : goal.returns-clause-readable
+returns-clause-readable g c = ap (λ (v : View). v.readable) c.self.view_is
+
+pub returns-clause-counts : goal.returns-clause-counts
+returns-clause-counts g c =
+    subst (λ (v : View). OnOk c.install.result (c.install.new.self.sealed.counts ≡ record v.forest.sealed.counts { rows_held = v.forest.sealed.counts.rows_held + length (output_of c.args.merged).table.rows }))
+    c.self.view_is c.install.ensures.counts
 
 pub returns-clause-installs : goal.returns-clause-installs
 returns-clause-installs g c =

@@ -19,7 +19,9 @@ pub returns-clause-lawful : goal.returns-clause-lawful
 returns-clause-lawful g c = subst (λ (v : View). IsLawfulAt v.forest.clock v.forest.journal) c.self.view_is c.self.invariant.lawful
 
 pub returns-clause-limits : goal.returns-clause-limits
-returns-clause-limits g c = subst (λ (v : View). IsWithinLimits v.forest.journal) c.self.view_is c.facts.ensures.limits
+returns-clause-limits g c =
+    subst (λ (v : View). IsWithinLimits v.forest.journal) c.self.view_is
+    (c.journals_are_within_limits.ensures c.self.inside.forest.journal c.self.invariant.lawful.lawful.sound)
 
 pub returns-clause-kept : goal.returns-clause-kept
 returns-clause-kept g c = subst (λ (v : View). v.forest.kept ≡ length v.forest.journal) c.self.view_is c.self.invariant.kept
