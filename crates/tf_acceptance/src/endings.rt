@@ -7,7 +7,7 @@ use std::io;
 use std::io::Write;
 use std::process::Abort;
 use std::test::Fail;
-use tf_main::{Ending, RunFault, report, run_script_plainly};
+use tf_main::{Ending, RunFault, exit_status, run_script_plainly, write_ending};
 use tf_served::run_script;
 
 const SCRIPT: &str = "# Two accounts and one transfer.
@@ -109,7 +109,8 @@ impl Write for Taker {
 /// The line and the status that are reported of an ending.
 fn assert_reported(rt: &(impl Abort + AllocGlobal), ending: &Ending, line: &str, status: u8) {
     let mut written = Vec::new(rt.alloc());
-    assert!(rt; report(ending, &mut written) == status);
+    assert!(rt; write_ending(ending, &mut written).is_ok());
+    assert!(rt; exit_status(ending) == status);
     assert!(rt; written.as_slice() == line.as_bytes());
 }
 
@@ -143,7 +144,7 @@ fn endings_have_their_line_and_status(rt: HostRuntime) -> Result<(), Fail> {
 }
 
 #[test]
-fn report_keeps_to_the_line_where_the_writer_fails(rt: HostRuntime) {
+fn an_ending_keeps_to_its_line_where_the_writer_fails(rt: HostRuntime) {
     let fault = Ending::Fault(RunFault::BadLine {
         line: 12,
         column: 34,
@@ -151,7 +152,7 @@ fn report_keeps_to_the_line_where_the_writer_fails(rt: HostRuntime) {
     let line = b"bad line 12 column 34\n";
     for room in 0..=line.len() {
         let mut err = Taker::new(rt.alloc(), Manner::FewAtOnce, room);
-        assert!(rt; report(&fault, &mut err) == 1);
+        assert!(rt; write_ending(&fault, &mut err).is_ok() == (room == line.len()));
         assert!(rt; err.taken.as_slice() == &line[..room]);
     }
 }

@@ -1,6 +1,6 @@
 //! Batches over any ledger.
 
-ghost use Rattle.std.specs.Prelude.{◌≡◌, ◌≤◌, ◌+◌, length, Ok, Err, OnOk, IfOk, MatchOption};
+ghost use Rattle.std.specs.Prelude.{◌≡◌, ◌≤◌, ◌+◌, length, Ok, Err, OnOk, OnErr, IfOk, MatchOption};
 ghost use Rattle.tf_journal.specs.Lawful.{AreChained, IsLawfulAt};
 ghost use Rattle.tf_events.specs.Batch.{IsBatchRun, batch_clock, batch_refusal, chains_of, chains_step, placed};
 ghost use Rattle.tf_events.specs.Chain.{accounts, transfers};
@@ -75,7 +75,8 @@ fn run_batch<E: Event, L: Ledger, A: Allocator>(
 ) -> Result<Reply<A>, Refusal>
     requires { IsLawfulAt (L.clock ledger.old) (L.journal ledger.old) }
     ensures run { IsBatchRun E.kind L.journal L.clock L.kept ledger.old ledger.new events.now now result }
-    ensures rest { L.rest ledger.new ≡ L.rest ledger.old }
+    ensures lasting { L.lasting (L.rest ledger.new) ≡ L.lasting (L.rest ledger.old) }
+    ensures refused { OnErr result (L.rest ledger.new ≡ L.rest ledger.old) }
 {
     let before = now.max(ledger.clock());
     let clock = clock_after(ledger.clock(), events.len(), now)?;
@@ -111,7 +112,8 @@ pub fn run_accounts<L: Ledger, A: Allocator>(
 ) -> Result<Reply<A>, Refusal>
     requires { IsLawfulAt (L.clock ledger.old) (L.journal ledger.old) }
     ensures run { IsBatchRun accounts L.journal L.clock L.kept ledger.old ledger.new events.now now result }
-    ensures rest { L.rest ledger.new ≡ L.rest ledger.old }
+    ensures lasting { L.lasting (L.rest ledger.new) ≡ L.lasting (L.rest ledger.old) }
+    ensures refused { OnErr result (L.rest ledger.new ≡ L.rest ledger.old) }
 {
     run_batch(alloc, ledger, events, now)
 }
@@ -131,7 +133,8 @@ pub fn run_transfers<L: Ledger, A: Allocator>(
 ) -> Result<Reply<A>, Refusal>
     requires { IsLawfulAt (L.clock ledger.old) (L.journal ledger.old) }
     ensures run { IsBatchRun transfers L.journal L.clock L.kept ledger.old ledger.new events.now now result }
-    ensures rest { L.rest ledger.new ≡ L.rest ledger.old }
+    ensures lasting { L.lasting (L.rest ledger.new) ≡ L.lasting (L.rest ledger.old) }
+    ensures refused { OnErr result (L.rest ledger.new ≡ L.rest ledger.old) }
 {
     run_batch(alloc, ledger, events, now)
 }

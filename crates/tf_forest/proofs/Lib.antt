@@ -1,3 +1,4 @@
+pub mod Marks
 pub mod Notes
 pub mod Noting
 pub mod Refused

@@ -27,7 +27,7 @@ use Rattle.tf_rows.specs.Next.{content_in}
 use Rattle.tf_rows.specs.Parts.{Part, Parts, value_of_part}
 use Rattle.tf_rows.specs.Resident.{Accounts, AreAmong, accounts_before}
 
-all_undone-last : (notes : List Noted) (note : Noted) (rows : Parts) → all_undone (notes ++ note ∷ []) rows ≡ all_undone notes (all_stepped note.steps rows)
+pub all_undone-last : (notes : List Noted) (note : Noted) (rows : Parts) → all_undone (notes ++ note ∷ []) rows ≡ all_undone notes (all_stepped note.steps rows)
 all_undone-last [] note rows = refl
 all_undone-last (first ∷ notes) note rows = ap (all_stepped first.steps) (all_undone-last notes note rows)
 
@@ -237,6 +237,12 @@ same_journal spell old new same was = spell new (journal_in old) was.sound (same
 no_notes : (notes : List Noted) → length notes ≡ 0 → notes ≡ []
 no_notes [] none = refl
 no_notes (note ∷ notes) none = absurd (omega arith)
+
+-- a forest that keeps all its entries has no notes
+pub all_kept : (has : Row → Bool) (fits : Row → Value → Bool) (takes_any : Row → Type 0) (rows : Parts) (notes : List Noted) (kept clock : ℕ) (lows : Floors) (due : Keys) (held : List (ℕ × Party)) → IsForest has fits takes_any rows notes kept clock lows due held → kept ≡ length (journal_in rows) → notes ≡ []
+all_kept has fits takes_any rows notes kept clock lows due held was all =
+    let count = was.count in
+    no_notes notes (omega arith)
 
 -- a forest that keeps all its entries, over such rows
 pub same_forest : (has : Row → Bool) (fits : Row → Value → Bool) (takes_any : Row → Type 0) → Spell → (old new : Parts) (notes : List Noted) (kept clock : ℕ) (lows : Floors) (due : Keys) (held : List (ℕ × Party)) → ((r : Row) (key : Key) → value_of_part (new r) key ≡ value_of_part (old r) key) → LogsHaveValues new

@@ -8,7 +8,7 @@ use Rattle.tf_registry.specs.Limit.{Pushed}
 use Rattle.tf_manifest.specs.Shows.{Shows}
 use Rattle.tf_manifest.specs.View.{ShowsJournal, View as Tables}
 use Rattle.tf_rows.specs.Counts.{Loses, Sealed}
-use Rattle.tf_forest.specs.Forest.{View}
+use Rattle.tf_forest.specs.Forest.{Noted, View, fresh_at_marks}
 use Rattle.tf_rows.specs.Spelled.{journal_in}
 use Rattle.tf_rows.specs.Nest.{LogsHaveValues}
 use Rattle.tf_rows.specs.Next.{content_in}
@@ -34,18 +34,20 @@ module _ (fresh after : Entries) (old new : Sealed) (most : ℕ) (same : after �
   pub logs_stay : LogsHaveValues (parts_of fresh old.tables) → LogsHaveValues (parts_of after new.tables)
   logs_stay values r log key = subst (λ (f : Entries). entry_at key (f r) ≢ Some None) (sym same) (values r log key)
 
-  pub unpublished : (clock kept : ℕ) (view : View)
-      → record { journal = journal_in (parts_of fresh old.tables); sealed = old; fresh = listed fresh; needed = tables_needed fresh old.tables; waiting = entries_waiting fresh; clock = clock; kept = kept } ≡ view
+  pub unpublished : (notes : List Noted) (clock kept : ℕ) (view : View) → notes ≡ []
+      → record { journal = journal_in (parts_of fresh old.tables); sealed = old; fresh = listed fresh; marks = fresh_at_marks notes (parts_of fresh old.tables); needed = tables_needed fresh old.tables; waiting = entries_waiting fresh; clock = clock; kept = kept } ≡ view
       → most ≡ view.needed → journal_in (parts_of after new.tables) ≡ journal_in (parts_of fresh old.tables)
-      → IsUnpublished view (record { journal = journal_in (parts_of after new.tables); sealed = new; fresh = listed after; needed = tables_needed after new.tables; waiting = entries_waiting after; clock = clock; kept = kept })
-  unpublished clock kept view is all journal =
-      let seen : List Entry → Entries → ℕ → View = λ j f n. record { journal = j; sealed = new; fresh = listed f; needed = n; waiting = entries_waiting f; clock = clock; kept = kept } in
+      → IsUnpublished view (record { journal = journal_in (parts_of after new.tables); sealed = new; fresh = listed after; marks = fresh_at_marks notes (parts_of after new.tables); needed = tables_needed after new.tables; waiting = entries_waiting after; clock = clock; kept = kept })
+  unpublished notes clock kept view none is all journal =
+      let seen : List Entry → Entries → List Noted → Tables → ℕ → View = λ j f ns ts n. record { journal = j; sealed = new; fresh = listed f; marks = fresh_at_marks ns (parts_of f ts); needed = n; waiting = entries_waiting f; clock = clock; kept = kept } in
       let was : List Entry = journal_in (parts_of fresh old.tables) in
-      let now : View = seen (journal_in (parts_of after new.tables)) after (tables_needed after new.tables) in
-      let left : now ≡ seen was fresh (tables_needed fresh old.tables) =
-      ap (λ (j : List Entry). seen j after (tables_needed after new.tables)) journal
-      ∙ ap (λ (f : Entries). seen was f (tables_needed f new.tables)) same
-      ∙ ap (λ (v : Tables). seen was fresh (tables_needed fresh v)) tables in
+      let now : View = seen (journal_in (parts_of after new.tables)) after notes new.tables (tables_needed after new.tables) in
+      let left : now ≡ seen was fresh notes old.tables (tables_needed fresh old.tables) =
+      ap (λ (j : List Entry). seen j after notes new.tables (tables_needed after new.tables)) journal
+      ∙ ap (λ (f : Entries). seen was f notes new.tables (tables_needed f new.tables)) same
+      ∙ ap (λ (v : Tables). seen was fresh notes new.tables (tables_needed fresh v)) tables
+      ∙ ap (λ (ns : List Noted). seen was fresh ns new.tables (tables_needed fresh old.tables)) none
+      ∙ ap (λ (ns : List Noted). seen was fresh ns old.tables (tables_needed fresh old.tables)) (sym none) in
       record {
         is = left ∙ ap (λ (v : View). record v { sealed = new }) is;
         loses = subst (λ (n : ℕ). Loses view.sealed new n) all (subst (λ (s : Sealed). Loses s new most) (ap (λ (v : View). v.sealed) is) loses);

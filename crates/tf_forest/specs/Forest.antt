@@ -14,9 +14,10 @@ use Rattle.tf_rows.specs.Edits.{party_of}
 use Rattle.tf_rows.specs.Counts.{Sealed}
 use Rattle.tf_rows.specs.DueSet.{Keys, StayHeld}
 use Rattle.tf_rows.specs.Floors.{HaveFloors}
-use Rattle.tf_rows.specs.Parts.{Parts}
+use Rattle.tf_rows.specs.Parts.{Parts, fresh_in}
 use Rattle.tf_rows.specs.Resident.{AreAmong, accounts_before}
 use Rattle.tf_rows.specs.Spelled.{ShowTheirJournal, journal_in}
+use Rattle.tf_publish.specs.Tables.{listed}
 
 -- what takes an entry back: the steps in the rows, and the accounts that it changed as they were
 pub record Noted : Type 0 where
@@ -27,6 +28,11 @@ pub record Noted : Type 0 where
 abbrev pub all_undone : List Noted → Parts → Parts
 all_undone [] rows = rows
 all_undone (note ∷ notes) rows = all_stepped note.steps (all_undone notes rows)
+
+-- what the mutable tables have, row by row, once all entries with a note are taken back, all but the first, and so on, and as they are
+abbrev pub fresh_at_marks : List Noted → Parts → List (List (List (Key × Option Value)))
+fresh_at_marks [] rows = listed (fresh_in rows) ∷ []
+fresh_at_marks (note ∷ notes) rows = listed (fresh_in (all_undone (note ∷ notes) rows)) ∷ fresh_at_marks notes rows
 
 -- of a set of rows: which are in it, what values they store, and which take an entry for any key
 module _ (has : Row → Bool) (fits : Row → Value → Bool) (takes_any : Row → Type 0) where
@@ -62,12 +68,13 @@ pub record IsCut (old new : List Entry) (count : ℕ) : Type 0 where
   pub many : length undone ≡ count
 
 -- what contracts see of a forest: its journal, its rows' sealed tables with what was counted of them, what its mutable tables
--- have, row by row, how many tables a publish would push, how many entries it would seal, the clock, and how many entries of
--- the journal stand for good
+-- have, row by row, and had at each length to which the journal can be cut back, from the kept one to the present one, how many
+-- tables a publish would push, how many entries it would seal, the clock, and how many entries of the journal stand for good
 pub record View : Type 0 where
   pub journal : List Entry
   pub sealed : Sealed
   pub fresh : List (List (Key × Option Value))
+  pub marks : List (List (List (Key × Option Value)))
   pub needed : ℕ
   pub waiting : ℕ
   pub clock : ℕ

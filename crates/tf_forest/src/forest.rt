@@ -1,5 +1,5 @@
 //! The ledger whose journal its rows spell.
-ghost use Rattle.std.specs.Prelude.{◌≡◌, ◌≤◌, [], length, take, OnErr};
+ghost use Rattle.std.specs.Prelude.{◌≡◌, ◌+◌, ◌-◌, ◌≤◌, [], ◌∷◌, ◌++◌, length, take, slice_get, Some, OnOk, OnErr};
 ghost use Rattle.tf_rows.specs.DueSet.{AreHeld};
 ghost use Rattle.tf_rows.specs.Floors.{IsFloor};
 ghost use Rattle.tf_rows.specs.Spelled.{ShowTheirJournal, journal_in};
@@ -51,13 +51,13 @@ impl<S: AllRows + Drop, A: Allocator + Copy> Model for Forest<S, A> {
 
     ghost Value = { View };
 
-    ghost use Rattle.tf_forest.specs.Forest.{IsForest};
+    ghost use Rattle.tf_forest.specs.Forest.{IsForest, fresh_at_marks};
     ghost use Rattle.tf_rows.specs.Spelled.{journal_in};
     ghost use Rattle.tf_rows.specs.Parts.{fresh_in};
     ghost use Rattle.tf_publish.specs.Publish.{entries_waiting, tables_needed};
     ghost use Rattle.tf_publish.specs.Tables.{listed};
 
-    ghost view = { λ f. record { journal = journal_in (S.parts f.rows); sealed = S.sealed f.rows; fresh = listed (fresh_in (S.parts f.rows)); needed = tables_needed (fresh_in (S.parts f.rows)) (S.sealed f.rows).tables; waiting = entries_waiting (fresh_in (S.parts f.rows)); clock = f.clock; kept = f.kept } };
+    ghost view = { λ f. record { journal = journal_in (S.parts f.rows); sealed = S.sealed f.rows; fresh = listed (fresh_in (S.parts f.rows)); marks = fresh_at_marks f.notes (S.parts f.rows); needed = tables_needed (fresh_in (S.parts f.rows)) (S.sealed f.rows).tables; waiting = entries_waiting (fresh_in (S.parts f.rows)); clock = f.clock; kept = f.kept } };
 
     ghost invariant = { λ f. IsForest S.has_row S.fits S.takes_any (S.parts f.rows) f.notes f.kept f.clock f.floors f.due f.resident };
 }
@@ -72,7 +72,7 @@ impl<S: AllRows + Drop, A: Allocator + Copy> Forest<S, A> {
         ensures clock { result.clock ≡ 0 }
         ensures kept { result.kept ≡ 0 }
         ensures sealed { result.sealed ≡ S.sealed rows }
-        ensures fresh { result.fresh ≡ nothing_fresh }
+        ensures fresh { (result.fresh ≡ nothing_fresh) × (result.marks ≡ nothing_fresh ∷ []) }
         ensures nothing { (result.needed ≡ 0) × (result.waiting ≡ 0) }
     {
         rows_spell_the_journal_they_show();
@@ -103,13 +103,15 @@ impl<S: AllRows + Drop, A: Allocator + Copy> Forest<S, A> {
     }
 
     /// What always holds of the journal: it is sound and within limits, what is kept of it is there, and none of that is
-    /// younger than the clock; and how many tables a publish needs, and how many entries it seals, by what the mutable tables
-    /// have. It does nothing.
+    /// younger than the clock; that what the mutable tables have is what they have at the present mark, the only one where all is kept; and how many tables a publish
+    /// needs, and how many entries it seals, by what the mutable tables have. It does nothing.
     pub fn facts(&self)
         ensures sound { IsSound self.now.journal }
         ensures limits { IsWithinLimits self.now.journal }
         ensures kept { self.now.kept ≤ length self.now.journal }
         ensures up_to { IsUpTo self.now.clock (take self.now.kept self.now.journal) }
+        ensures present { slice_get self.now.marks (length self.now.journal - self.now.kept) ≡ Some self.now.fresh }
+        ensures at_rest { self.now.kept ≡ length self.now.journal → self.now.marks ≡ self.now.fresh ∷ [] }
         ensures waits { Waits self.now.fresh self.now.sealed.tables self.now.needed self.now.waiting }
     {
         journals_are_within_limits();
@@ -178,6 +180,8 @@ impl<S: AllRows + Drop, A: Allocator + Copy> Forest<S, A> {
         requires { CanGrow self.old.journal (Entry.Account account) }
         ensures addition { IsAddition (λ f. f.journal) (λ f. f.clock) (λ f. f.kept) self.old self.new (Entry.Account account) result }
         ensures sealed { self.new.sealed ≡ self.old.sealed }
+        ensures marks { OnOk result (self.new.marks ≡ self.old.marks ++ self.new.fresh ∷ []) }
+        ensures first { slice_get self.new.marks 0 ≡ slice_get self.old.marks 0 }
         ensures err { OnErr result (self.new ≡ self.old) }
     {
         self.add(&Entry::Account(account))
@@ -190,6 +194,8 @@ impl<S: AllRows + Drop, A: Allocator + Copy> Forest<S, A> {
         requires { CanGrow self.old.journal (Entry.Transfer transfer) }
         ensures addition { IsAddition (λ f. f.journal) (λ f. f.clock) (λ f. f.kept) self.old self.new (Entry.Transfer transfer) result }
         ensures sealed { self.new.sealed ≡ self.old.sealed }
+        ensures marks { OnOk result (self.new.marks ≡ self.old.marks ++ self.new.fresh ∷ []) }
+        ensures first { slice_get self.new.marks 0 ≡ slice_get self.old.marks 0 }
         ensures err { OnErr result (self.new ≡ self.old) }
     {
         self.add(&Entry::Transfer(transfer))
@@ -202,6 +208,8 @@ impl<S: AllRows + Drop, A: Allocator + Copy> Forest<S, A> {
         requires { CanGrow self.old.journal (Entry.Expiry timestamp pending) }
         ensures addition { IsAddition (λ f. f.journal) (λ f. f.clock) (λ f. f.kept) self.old self.new (Entry.Expiry timestamp pending) result }
         ensures sealed { self.new.sealed ≡ self.old.sealed }
+        ensures marks { OnOk result (self.new.marks ≡ self.old.marks ++ self.new.fresh ∷ []) }
+        ensures first { slice_get self.new.marks 0 ≡ slice_get self.old.marks 0 }
         ensures err { OnErr result (self.new ≡ self.old) }
     {
         self.add(&Entry::Expiry { timestamp, pending })
@@ -212,6 +220,8 @@ impl<S: AllRows + Drop, A: Allocator + Copy> Forest<S, A> {
         requires { CanGrow self.old.journal (Entry.Failed timestamp id) }
         ensures addition { IsAddition (λ f. f.journal) (λ f. f.clock) (λ f. f.kept) self.old self.new (Entry.Failed timestamp id) result }
         ensures sealed { self.new.sealed ≡ self.old.sealed }
+        ensures marks { OnOk result (self.new.marks ≡ self.old.marks ++ self.new.fresh ∷ []) }
+        ensures first { slice_get self.new.marks 0 ≡ slice_get self.old.marks 0 }
         ensures err { OnErr result (self.new ≡ self.old) }
     {
         self.add(&Entry::Failed { timestamp, id })
@@ -222,6 +232,8 @@ impl<S: AllRows + Drop, A: Allocator + Copy> Forest<S, A> {
         requires { CanGrow self.old.journal entry.now }
         ensures addition { IsAddition (λ f. f.journal) (λ f. f.clock) (λ f. f.kept) self.old self.new entry.now result }
         ensures sealed { self.new.sealed ≡ self.old.sealed }
+        ensures marks { OnOk result (self.new.marks ≡ self.old.marks ++ self.new.fresh ∷ []) }
+        ensures first { slice_get self.new.marks 0 ≡ slice_get self.old.marks 0 }
         ensures err { OnErr result (self.new ≡ self.old) }
     {
         next_entry_can_be_added();
@@ -266,7 +278,8 @@ impl<S: AllRows + Drop, A: Allocator + Copy> Forest<S, A> {
     }
 
     /// Cuts the journal back to a mark that isn't below what was last kept. It takes no memory, and as many steps as the
-    /// entries changed keys. The accounts of the entries have their former states again.
+    /// entries changed keys. The accounts of the entries have their former states again, and each mutable table has what it had
+    /// at the mark, entry by entry.
     pub fn undo(&mut self, to: Mark)
         requires not_kept { self.old.kept ≤ to.length }
         requires present { to.length ≤ length self.old.journal }
@@ -274,6 +287,8 @@ impl<S: AllRows + Drop, A: Allocator + Copy> Forest<S, A> {
         ensures clock_kept { self.new.clock ≡ self.old.clock }
         ensures length_kept { self.new.kept ≡ self.old.kept }
         ensures sealed { self.new.sealed ≡ self.old.sealed }
+        ensures marks { self.new.marks ≡ take (to.length - self.old.kept + 1) self.old.marks }
+        ensures first { slice_get self.new.marks 0 ≡ slice_get self.old.marks 0 }
     {
         let left = to.length - self.kept;
         self.notes.undo_to(&mut self.rows, &mut self.resident, left);
@@ -292,7 +307,7 @@ impl<S: AllRows + Drop, A: Allocator + Copy> Forest<S, A> {
         ensures clock { self.new.clock ≡ moment }
         ensures all_kept { self.new.kept ≡ length self.old.journal }
         ensures sealed { self.new.sealed ≡ self.old.sealed }
-        ensures rest { self.new ≡ record self.old { clock = moment; kept = length self.old.journal } }
+        ensures rest { self.new ≡ record self.old { marks = self.old.fresh ∷ []; clock = moment; kept = length self.old.journal } }
     {
         self.due.sweep(&self.rows);
         let first = self.due.first_from(&self.rows, &self.floors.present);

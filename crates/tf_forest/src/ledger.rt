@@ -12,11 +12,19 @@ impl<S: AllRows + Drop, A: Allocator + Copy> Ledger for Forest<S, A> {
 
     ghost kept = { λ forest. forest.kept };
 
+    ghost use Rattle.std.specs.Prelude.{List, Option, slice_get};
+    ghost use Rattle.tf_table.specs.declared.key.Key.{Key};
+    ghost use Rattle.tf_manifest.specs.declared.value.Value.{Value};
     ghost use Rattle.tf_rows.specs.Counts.{Sealed};
 
-    ghost Rest = { Sealed };
+    // The sealed tables, and what the mutable ones had when the journal was last kept.
+    ghost Rest = { Sealed × Option (List (List (Key × Option Value))) };
 
-    ghost rest = { λ forest. forest.sealed };
+    ghost rest = { λ forest. (forest.sealed, slice_get forest.marks 0) };
+
+    ghost Lasting = { Sealed };
+
+    ghost lasting = { λ rest. rest.0 };
 
     fn clock(&self) -> u64 {
         Forest::clock(self)

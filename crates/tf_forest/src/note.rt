@@ -1,5 +1,5 @@
 //! Notes that take the last entries of rows back.
-ghost use Rattle.std.specs.Prelude.{◌≡◌, ◌-◌, ◌∷◌, ◌++◌, ◌≤◌, [], List, length, OnOk, OnErr, IfErr};
+ghost use Rattle.std.specs.Prelude.{◌≡◌, ◌+◌, ◌-◌, ◌∷◌, ◌++◌, ◌≤◌, [], List, length, take, OnOk, OnErr, IfErr};
 ghost use Rattle.tf_journal.specs.declared.entry.Entry.{Entry};
 ghost use Rattle.tf_journal.specs.Lawful.{IsSound};
 ghost use Rattle.tf_journal.specs.Ledger.{CanGrow};
@@ -10,7 +10,7 @@ ghost use Rattle.tf_rows.specs.Next.{changes_by, content_in};
 ghost use Rattle.tf_rows.specs.Range.{LeavesInRange};
 ghost use Rattle.tf_rows.specs.Resident.{Accounts, AreAmong, accounts_before};
 ghost use Rattle.tf_rows.specs.Spelled.{ShowTheirJournal, journal_in};
-ghost use Rattle.tf_forest.specs.Forest.{AreRight, IsCut, Noted};
+ghost use Rattle.tf_forest.specs.Forest.{AreRight, IsCut, Noted, fresh_at_marks};
 ghost use Rattle.tf_forest.specs.Notes.{IsNoted};
 
 use std::alloc::Allocator;
@@ -142,6 +142,7 @@ impl<A: Allocator + Copy> Notes<A> {
         ensures right { AreRight S.has_row S.fits S.takes_any self.new (S.parts rows.new) }
         ensures left { length self.new ≡ left }
         ensures cut { IsCut (journal_in (S.parts rows.old)) (journal_in (S.parts rows.new)) (length self.old - left) }
+        ensures marks { fresh_at_marks self.new (S.parts rows.new) ≡ take (left + 1) (fresh_at_marks self.old (S.parts rows.old)) }
         ensures sealed { S.sealed rows.new ≡ S.sealed rows.old }
         ensures resident { AreAmong (party_of (journal_in (S.parts rows.new))) resident.new }
     {

@@ -1,5 +1,5 @@
 //! Publishing a forest.
-ghost use Rattle.std.specs.Prelude.{◌≡◌, ◌≢◌, ◌+◌, ◌<◌, ◌≤◌, ◌==◌, length, None, Err, Ok, OnErr, OnOk, IfOk, IfErr, IfNone, IfSome, IsOk, if◌then◌else◌};
+ghost use Rattle.std.specs.Prelude.{[], ◌∷◌, ◌≡◌, ◌≢◌, ◌+◌, ◌<◌, ◌≤◌, ◌==◌, length, None, Err, Ok, OnErr, OnOk, IfOk, IfErr, IfNone, IfSome, IsOk, if◌then◌else◌};
 ghost use Rattle.tf_rows.specs.Counts.{AreBounded, IsReady, counted, settled};
 ghost use Rattle.tf_publish.specs.Partly.{CountsParts};
 ghost use Rattle.tf_publish.specs.Tables.{Publishes, by_name, nothing_fresh};
@@ -61,7 +61,7 @@ impl<F: SealRows<A> + Drop, A: Allocator + Copy, N: Naming> Forest<Rows<F, A, N>
         requires kept { self.old.kept ≡ length self.old.journal }
         requires shows { ShowsJournal prepared.tables self.old.journal }
         requires ready { IsReady self.old.sealed prepared }
-        ensures { self.new ≡ record self.old { sealed = settled prepared self.old.sealed; fresh = nothing_fresh; needed = 0; waiting = 0 } }
+        ensures { self.new ≡ record self.old { sealed = settled prepared self.old.sealed; fresh = nothing_fresh; marks = nothing_fresh ∷ []; needed = 0; waiting = 0 } }
     {
         rows_spell_the_journal_they_show();
         self.rows.published.settle(prepared);

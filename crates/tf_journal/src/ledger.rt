@@ -39,6 +39,12 @@ pub trait Ledger {
     /// What the ledger keeps besides. Neither an entry nor an undo changes it.
     ghost rest: { Self → Rest };
 
+    /// What of the rest lasts, of a kind of its own.
+    ghost Lasting: { Type 0 };
+
+    /// The part of the rest that lasts where entries come to stand for good.
+    ghost lasting: { Rest → Lasting };
+
     /// The moment after which the next timestamps are given out, 0 at first. Takes no memory.
     fn clock(&self) -> u64
         ensures { result ≡ clock self.now };
@@ -119,5 +125,5 @@ pub trait Ledger {
         ensures same { journal self.new ≡ journal self.old }
         ensures clock { clock self.new ≡ moment }
         ensures all_kept { kept self.new ≡ length (journal self.old) }
-        ensures rest { rest self.new ≡ rest self.old };
+        ensures lasting { lasting (rest self.new) ≡ lasting (rest self.old) };
 }

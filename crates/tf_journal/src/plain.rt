@@ -73,6 +73,10 @@ impl<A: Allocator> Ledger for PlainLedger<A> {
 
     ghost rest = { λ _. tt };
 
+    ghost Lasting = { Unit {0} };
+
+    ghost lasting = { λ _. tt };
+
     fn clock(&self) -> u64 {
         self.clock
     }

@@ -6,7 +6,7 @@ use Rattle.std.proofs.lemmas.List.Concat.{flat_map-append}
 use Rattle.std.proofs.lemmas.List.{take-append-drop}
 use Rattle.std.proofs.lemmas.Result.{MatchResult-from_err, MatchResult-weaker}
 use Rattle.std.specs.Io.KnownBytes.{Appends, Keeps}
-use Rattle.tf_main.specs.Output.{AppendsFront, AppendsPart, Writes}
+use Rattle.tf_main.specs.Output.{AppendsPart, Writes}
 
 -- what was appended before is all that was appended, where nothing was appended since
 pub Appends-Keeps : (old mid new : Option (List ℕ)) (bytes : List ℕ) → Appends old mid bytes → Keeps mid new → Appends old new bytes
@@ -108,9 +108,3 @@ Writes-Appends old mid new result xs ys before writes =
     MatchResult-weaker result writes
     (λ _ appends. Appends-Appends old mid new xs ys before appends)
     (λ _ front. AppendsPart-Appends old mid new xs ys before front)
-
--- in either case a front of the bytes was appended
-pub Writes-front : {X E : Type 0} (old new : Option (List ℕ)) (result : Result X E) (bytes : List ℕ) → Writes old new result bytes → AppendsFront old new bytes
-Writes-front old new (Ok x) bytes writes = record { front = bytes; back = []; parts = append-nil bytes; appended = writes }
-Writes-front old new (Err error) bytes writes =
-    record { front = writes.front; back = writes.back; parts = writes.parts; appended = writes.appended }

@@ -18,11 +18,15 @@ fault_line NoMemory = codes "no memory" ++ line_feed
 fault_line (BadLine line column) = bad_line line column
 fault_line (CannotWrite error) = codes "cannot write" ++ line_feed
 
+-- the line where the file of this name couldn't be read
+abbrev pub unread_line : List ℕ → List ℕ
+unread_line name = concat (codes "cannot read " ∷ name ∷ line_feed ∷ [])
+
 -- the line on standard error: none where the script was run to its end
 abbrev pub ending_line : Ending → List ℕ
 ending_line Done = []
 ending_line Usage = codes "usage: tigerforest run SCRIPT or tigerforest storm SCRIPT.." ++ line_feed
-ending_line (CannotRead name) = concat (codes "cannot read " ∷ string_bytes name ∷ line_feed ∷ [])
+ending_line (CannotRead name) = unread_line (string_bytes name)
 ending_line (Fault fault) = fault_line fault
 ending_line NoThread = codes "cannot start a thread" ++ line_feed
 

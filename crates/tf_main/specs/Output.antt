@@ -8,13 +8,6 @@ use Rattle.std.specs.List.{flat_map}
 abbrev pub joined : List (Bor (List ℕ)) → List ℕ
 joined pieces = flat_map (λ (piece : Bor (List ℕ)). piece.now) pieces
 
--- a front of the bytes was appended, and nothing else
-pub record AppendsFront (old new : Option (List ℕ)) (bytes : List ℕ) : Type 0 where
-  pub front : List ℕ
-  pub back : List ℕ
-  pub parts : front ++ back ≡ bytes
-  pub appended : Appends old new front
-
 -- a front of the bytes was appended that isn't the whole, and nothing else
 pub record AppendsPart (old new : Option (List ℕ)) (bytes : List ℕ) : Type 0 where
   pub front : List ℕ

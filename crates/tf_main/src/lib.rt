@@ -2,8 +2,8 @@
 //!
 //! [`read_script`] reads a whole script, and [`run_commands`] runs its commands one after another by any [`Engine`] and
 //! writes the lines of each. [`run_script_plainly`] does both over an empty plain ledger. What runs commands by calls of its
-//! own writes their lines by [`write_batch`] and the others. [`report`] writes the program's last line and answers its exit
-//! status.
+//! own writes their lines by [`write_batch`] and the others. [`write_ending`] writes the program's last line, and
+//! [`exit_status`] answers its exit status.
 #![tactic(auto)]
 
 mod answer;
@@ -18,7 +18,7 @@ mod row;
 mod run;
 
 pub use answer::{write_batch, write_compaction, write_found, write_publish, write_pulsed};
-pub use ending::{Ending, report};
+pub use ending::{Ending, exit_status, write_ending};
 pub use engine::Engine;
 pub use fault::RunFault;
 pub use line::write_totals;

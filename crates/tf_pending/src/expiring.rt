@@ -1,6 +1,6 @@
 //! The expiry of pending transfers.
 
-ghost use Rattle.std.specs.Prelude.{◌≡◌, ◌≤◌, ◌+◌, nat_le, length, min, take, IfOk, IfErr};
+ghost use Rattle.std.specs.Prelude.{◌≡◌, ◌≤◌, ◌+◌, nat_le, length, min, take, OnErr, IfOk, IfErr};
 ghost use Rattle.tf_journal.specs.Due.{due};
 ghost use Rattle.tf_journal.specs.Journal.{last_timestamp};
 ghost use Rattle.tf_journal.specs.Lawful.{IsLawfulAt};
@@ -20,7 +20,8 @@ use tf_records::{BATCH_MAX, Refusal, TIMESTAMP_MAX};
 pub fn pulse<L: Ledger>(ledger: &mut L, now: u64, max: u32) -> Result<u32, Refusal>
     requires { IsLawfulAt (L.clock ledger.old) (L.journal ledger.old) }
     ensures run { IsPulseRun L.journal L.clock L.kept ledger.old ledger.new now max result }
-    ensures rest { L.rest ledger.new ≡ L.rest ledger.old }
+    ensures lasting { L.lasting (L.rest ledger.new) ≡ L.lasting (L.rest ledger.old) }
+    ensures refused { OnErr result (L.rest ledger.new ≡ L.rest ledger.old) }
 {
     let moment = now.max(ledger.clock());
     let most = max.min(BATCH_MAX);

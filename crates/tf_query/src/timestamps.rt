@@ -1,5 +1,5 @@
 //! The timestamps that a filter asks for, read off a scan.
-ghost use Rattle.std.specs.Prelude.{◌≡◌, ◌≤◌, true, false, length, take, slice_get, IfErr, IfOk, IfSome};
+ghost use Rattle.std.specs.Prelude.{◌≡◌, ◌≤◌, [], true, false, length, nat_lt, take, slice_get, vec_capacity, IfErr, IfOk, IfSome, if◌then◌else◌};
 ghost use Rattle.std.specs.List.{AllByRecursion};
 ghost use Rattle.tf_journal.specs.Filter.{is_within};
 ghost use Rattle.tf_query.specs.Reading.{AreFrom, IsPart, all_within};
@@ -67,6 +67,17 @@ pub fn read_part<P: Leaf, B: Allocator>(
     count_within(window, &part[..taken])
 }
 
+/// Room for the timestamps that a window asks for, of which so many were read at once: for just those where there are no more, else
+/// for as many as the window has.
+fn room_for<B: Allocator>(alloc: B, read: usize, window: &Window) -> Result<Vec<u64, B>, Refusal>
+    ensures empty { IfOk result (λ room. room.items ≡ []) }
+    ensures room { IfOk result (λ room. vec_capacity room ≡ (if nat_lt read 256 then read else window.now.most)) }
+    ensures refusal { IfErr result (λ refusal. refusal ≡ Refusal.NoMemory) }
+{
+    let most = if read < PART { read } else { window.most };
+    Ok(Vec::with_capacity(alloc, most)?)
+}
+
 /// Reads the first timestamps of a scan that lie in a window, as `timestamps_within` does.
 fn read_within<P: Leaf, B: Allocator>(
     alloc: B,
@@ -80,8 +91,7 @@ fn read_within<P: Leaf, B: Allocator>(
     seek_first(scan, window);
     let mut part = [0; PART];
     let mut count = read_part(scan, window, window.most, &mut part);
-    let room = if count < PART { count } else { window.most };
-    let mut timestamps = Vec::with_capacity(alloc, room)?;
+    let mut timestamps = room_for(alloc, count, window)?;
     timestamps.extend_from_slice(&part[..count])?;
     while count == PART {
         count = read_part(scan, window, window.most - timestamps.len(), &mut part);

@@ -6,3 +6,4 @@ pub mod Beginnings
 pub mod Crossing
 pub mod OnHeap
 pub mod Carried
+pub mod Unchanged

@@ -53,7 +53,7 @@ impl<R: AllRows + Drop, C: StoredCopies + Drop, A: Allocator + Copy, S: StoreNam
     /// by the number of accounts stored.
     ///
     /// Times are nanoseconds. `BatchTooLarge`: more than `BATCH_MAX` events; then `ClockExhausted`; both before any memory is
-    /// taken; then `NoMemory`. A refusal leaves all as it was. Takes a verdict and a few look-ups in rows for each event, and
+    /// taken; then `NoMemory`. A refusal leaves all as it was, each mutable table entry by entry. Takes a verdict and a few look-ups in rows for each event, and
     /// memory for a copy of the events and of the reply beside the entries. As `create_accounts` of TigerBeetle's reference.
     pub fn create_accounts(
         &mut self,
@@ -63,6 +63,7 @@ impl<R: AllRows + Drop, C: StoredCopies + Drop, A: Allocator + Copy, S: StoreNam
     ) -> Result<Reply<A>, Refusal>
         ensures run { IsBatchRun kind.accounts (λ f. f.journal) (λ f. f.clock) (λ f. f.kept) self.old.forest self.new.forest events.now now result }
         ensures sealed { self.new.forest.sealed ≡ self.old.forest.sealed }
+        ensures unchanged { OnErr result (self.new.forest ≡ self.old.forest) }
         ensures readable { self.new.readable ≡ self.old.readable }
         ensures share { share.new + book_of self.old.forest.journal ≡ share.old + book_of self.new.forest.journal }
         ensures receipt { IfOk result (λ reply. self.new.waiting ≡ self.old.waiting ++ record { events = accounts events.now; moment = now; clock = self.old.forest.clock; reply = reply; first = self.old.forest.journal; second = self.new.forest.journal } ∷ []) }
@@ -84,6 +85,7 @@ impl<R: AllRows + Drop, C: StoredCopies + Drop, A: Allocator + Copy, S: StoreNam
     ) -> Result<Reply<A>, Refusal>
         ensures run { IsBatchRun kind.transfers (λ f. f.journal) (λ f. f.clock) (λ f. f.kept) self.old.forest self.new.forest events.now now result }
         ensures sealed { self.new.forest.sealed ≡ self.old.forest.sealed }
+        ensures unchanged { OnErr result (self.new.forest ≡ self.old.forest) }
         ensures readable { self.new.readable ≡ self.old.readable }
         ensures share { share.new + book_of self.old.forest.journal ≡ share.old + book_of self.new.forest.journal }
         ensures receipt { IfOk result (λ reply. self.new.waiting ≡ self.old.waiting ++ record { events = transfers events.now; moment = now; clock = self.old.forest.clock; reply = reply; first = self.old.forest.journal; second = self.new.forest.journal } ∷ []) }
@@ -103,12 +105,14 @@ impl<R: AllRows + Drop, C: StoredCopies + Drop, A: Allocator + Copy, S: StoreNam
     ) -> Result<Reply<A>, Refusal>
         ensures run { IsRun (λ f. f.journal) (λ f. f.clock) (λ f. f.kept) self.old.forest self.new.forest (batch_of events) now result }
         ensures sealed { self.new.forest.sealed ≡ self.old.forest.sealed }
+        ensures unchanged { OnErr result (self.new.forest ≡ self.old.forest) }
         ensures readable { self.new.readable ≡ self.old.readable }
         ensures share { share.new + book_of self.old.forest.journal ≡ share.old + book_of self.new.forest.journal }
         ensures receipt { IfOk result (λ reply. self.new.waiting ≡ self.old.waiting ++ record { events = batch_of events; moment = now; clock = self.old.forest.clock; reply = reply; first = self.old.forest.journal; second = self.new.forest.journal } ∷ []) }
         ensures refused { OnErr result ((self.new.waiting ≡ self.old.waiting) × (share.new ≡ share.old)) }
     {
-        run_batch(
+        self.forest.facts();
+        let reply = run_batch(
             self.alloc,
             &mut self.forest,
             &mut self.tally,
@@ -116,23 +120,29 @@ impl<R: AllRows + Drop, C: StoredCopies + Drop, A: Allocator + Copy, S: StoreNam
             events,
             now,
             share,
-        )
+        );
+        self.forest.facts();
+        reply
     }
 
     /// Lets due pending transfers expire, at most `max` and at most `BATCH_MAX` of them, and answers how many, as `pulse` of
     /// a ledger does. The share grows by that number. It leaves no receipt.
     ///
     /// Times are nanoseconds. `ClockExhausted` where the clock has no timestamps left for them, before any memory is taken;
-    /// then `NoMemory`. A refusal leaves all as it was. Takes a search in the expiry index and a few look-ups in rows for
+    /// then `NoMemory`. A refusal leaves all as it was, each mutable table entry by entry. Takes a search in the expiry index and a few look-ups in rows for
     /// each.
     pub fn pulse(&mut self, now: u64, max: u32, share: &mut Share<S>) -> Result<u32, Refusal>
         ensures run { IsPulseRun (λ f. f.journal) (λ f. f.clock) (λ f. f.kept) self.old.forest self.new.forest now max result }
         ensures sealed { self.new.forest.sealed ≡ self.old.forest.sealed }
+        ensures unchanged { OnErr result (self.new.forest ≡ self.old.forest) }
         ensures readable { self.new.readable ≡ self.old.readable }
         ensures share { IfOk result (λ count. share.new ≡ share.old + count) }
         ensures waiting { self.new.waiting ≡ self.old.waiting }
         ensures refused { OnErr result (share.new ≡ share.old) }
     {
-        run_pulse(&mut self.forest, &mut self.tally, now, max, share)
+        self.forest.facts();
+        let count = run_pulse(&mut self.forest, &mut self.tally, now, max, share);
+        self.forest.facts();
+        count
     }
 }

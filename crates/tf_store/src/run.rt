@@ -26,7 +26,8 @@ fn run_events<L: Ledger, A: Allocator + Copy>(
 ) -> Result<Reply<A>, Refusal>
     requires { IsLawfulAt (L.clock ledger.old) (L.journal ledger.old) }
     ensures run { IsRun L.journal L.clock L.kept ledger.old ledger.new (batch_of events.now) now result }
-    ensures rest { L.rest ledger.new ≡ L.rest ledger.old }
+    ensures lasting { L.lasting (L.rest ledger.new) ≡ L.lasting (L.rest ledger.old) }
+    ensures unchanged { OnErr result (L.rest ledger.new ≡ L.rest ledger.old) }
 {
     match events {
         Events::Accounts(events) => run_accounts(alloc, ledger, events.as_slice(), now),
@@ -80,7 +81,8 @@ pub(crate) fn run_batch<L: Ledger, A: Allocator + Copy, S: StoreName>(
     requires lawful { IsLawfulAt (L.clock ledger.old) (L.journal ledger.old) }
     requires counted { tally.old ≡ book_of (L.journal ledger.old) }
     ensures run { IsRun L.journal L.clock L.kept ledger.old ledger.new (batch_of events) now result }
-    ensures rest { L.rest ledger.new ≡ L.rest ledger.old }
+    ensures lasting { L.lasting (L.rest ledger.new) ≡ L.lasting (L.rest ledger.old) }
+    ensures unchanged { OnErr result (L.rest ledger.new ≡ L.rest ledger.old) }
     ensures begins { IsPrefix (L.journal ledger.old) (L.journal ledger.new) }
     ensures counted { tally.new ≡ book_of (L.journal ledger.new) }
     ensures share { share.new + book_of (L.journal ledger.old) ≡ share.old + book_of (L.journal ledger.new) }
@@ -115,7 +117,8 @@ pub(crate) fn run_pulse<L: Ledger, S: StoreName>(
     requires lawful { IsLawfulAt (L.clock ledger.old) (L.journal ledger.old) }
     requires counted { tally.old ≡ book_of (L.journal ledger.old) }
     ensures run { IsPulseRun L.journal L.clock L.kept ledger.old ledger.new now max result }
-    ensures rest { L.rest ledger.new ≡ L.rest ledger.old }
+    ensures lasting { L.lasting (L.rest ledger.new) ≡ L.lasting (L.rest ledger.old) }
+    ensures unchanged { OnErr result (L.rest ledger.new ≡ L.rest ledger.old) }
     ensures begins { IsPrefix (L.journal ledger.old) (L.journal ledger.new) }
     ensures counted { tally.new ≡ book_of (L.journal ledger.new) }
     ensures share { IfOk result (λ count. share.new ≡ share.old + count) }

@@ -1,7 +1,7 @@
 //! In which ways a script is run.
 
 use std::sync::Wait;
-use tf_main::{Ending, report, run_script_plainly};
+use tf_main::{Ending, run_script_plainly, write_ending};
 use tf_served::run_script;
 
 /// By what a script is run, and what is strewn into it.
@@ -45,7 +45,7 @@ impl Way {
         }
     }
 
-    /// What a script writes, with the line that its ending reports.
+    /// What a script writes, with the line of its ending.
     pub fn run<R: AllocGlobal + Wait>(self, rt: &R, script: &[u8]) -> Vec<u8> {
         let mut written = Vec::new(rt.alloc());
         let outcome = match self {
@@ -56,7 +56,7 @@ impl Way {
             Ok(()) => Ending::Done,
             Err(fault) => Ending::Fault(fault),
         };
-        let _status = report(&ending, &mut written);
+        let _whole = write_ending(&ending, &mut written);
         written
     }
 }

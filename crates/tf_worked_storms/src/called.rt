@@ -5,7 +5,7 @@ use std::marker::Sync;
 use std::rt::Files;
 use std::sync::Wait;
 use std::thread::Threads;
-use tf_main::{Ending, report};
+use tf_main::{Ending, exit_status, write_ending};
 use tf_storm::storm_files;
 
 /// What a call writes, what it says on standard error, and its exit status, as a text.
@@ -40,7 +40,8 @@ pub fn call<R: Files + AllocGlobal + Wait + Threads + Sync>(
     } else {
         Ending::Usage
     };
-    let status = report(&ending, &mut said);
+    let _whole = write_ending(&ending, &mut said);
+    let status = exit_status(&ending);
     let status = format!(in rt.alloc(); "{status}\n")?.into_bytes();
     Ok(Called {
         written,

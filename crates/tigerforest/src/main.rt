@@ -13,17 +13,17 @@ use std::process::ExitCode;
 use std::rt::{Env, Files};
 use std::sync::Wait;
 use std::thread::Threads;
-use tf_main::{Ending, report};
+use tf_main::{Ending, exit_status, write_ending};
 use tf_program::{ending_unless_no_memory, run_script_in};
 use tf_storm::{Done, write_reports};
 
 fn main(rt: HostRuntime) -> ExitCode {
     let (ending, done) = run(&rt);
     let mut err = rt.stderr();
-    let status = report(&ending, &mut err);
-    // There is nobody left to tell where it can't be written.
+    // There is nobody left to tell where they can't be written.
+    let _ = write_ending(&ending, &mut err);
     let _ = write_reports(done.as_slice(), &mut err);
-    ExitCode::from(status)
+    ExitCode::from(exit_status(&ending))
 }
 
 /// Does what the arguments ask for. Gives what each worker of a storm did, where they ask for it.

@@ -5,12 +5,14 @@ use std::env;
 use std::process::ExitCode;
 use std::rt::{Env, Files};
 use std::sync::Wait;
-use tf_main::{Ending, report};
+use tf_main::{Ending, exit_status, write_ending};
 use tf_program::{ending_unless_no_memory, run_script_in};
 
 fn main(rt: HostRuntime) -> ExitCode {
     let ending = run(&rt);
-    ExitCode::from(report(&ending, &mut rt.stderr()))
+    // There is nobody left to tell where it can't be written.
+    let _ = write_ending(&ending, &mut rt.stderr());
+    ExitCode::from(exit_status(&ending))
 }
 
 /// Does what the arguments ask for.

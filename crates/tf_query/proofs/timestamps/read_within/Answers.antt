@@ -40,5 +40,5 @@ loop-count-init g c =
       direction = c.read_part-count.ensures.direction ∙ c.seek_first.ensures.direction;
       read = read-more _ w c.read_part-count.result 256 _ [] _ was _ _ (omega arith) (ap (λ n. take n (all_within w was)) (sym all) ∙ ap (take w.most) c.seek_first.ensures.same)
           (subst (λ n. IsPart c.args.scan.now.direction w n c.read_part-count.result c.read_part-count.new.part was c.read_part-count.new.scan.left) all part)
-          (omega arith) (c.in_ok-extend_from_slice.ensures.items ∙ ap (λ ts. ts ++ take c.read_part-count.result c.read_part-count.new.part) c.in_ok-timestamps.ensures.items);
+          (omega arith) (c.in_ok-extend_from_slice.ensures.items ∙ ap (λ ts. ts ++ take c.read_part-count.result c.read_part-count.new.part) c.in_ok-timestamps.ensures.empty);
     }

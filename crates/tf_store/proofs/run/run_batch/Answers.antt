@@ -2,6 +2,7 @@ use Rattle.std.proofs.Common.{arith, ◌∙◌, refl, Ok}
 use Rattle.std.proofs.lemmas.Result.{IfOk-from_err, err_from_is_err_and}
 use Rattle.tf_store.specs.Events.{batch_of}
 use Rattle.tf_store.proofs.Counting.{begins_itself, book_and_failed}
+use Rattle.tf_store.proofs.Published.{whatever_err}
 use Rattle.tf_store.proofs.Runs.{begins, counts, fits, not_run}
 use Rattle.tf_store.proofs.run.run_batch.Goals as goal
 
@@ -41,8 +42,8 @@ returns-clause-share g c =
 pub returns-clause-run : goal.returns-clause-run
 returns-clause-run g c = c.in_ok-reply.ensures.run
 
-pub returns-clause-rest : goal.returns-clause-rest
-returns-clause-rest g c = c.in_ok-reply.ensures.rest
+pub returns-clause-lasting : goal.returns-clause-lasting
+returns-clause-lasting g c = c.in_ok-reply.ensures.lasting
 
 pub returns-clause-waits : goal.returns-clause-waits
 returns-clause-waits g c =
@@ -53,8 +54,11 @@ returns-in_err-room-clause-run g c =
     let p = err_from_is_err_and c.from_residual.result c.from_residual.ensures.1 in
     rw (p.1, p.2) (not_run g.L.Ledger.journal g.L.Ledger.clock g.L.Ledger.kept c.args.ledger.now (batch_of c.args.events) c.args.now _ c.requires.lawful (rw c.clock-clock.ensures at c.in_err-room.ensures.refused))
 
-pub returns-in_err-room-clause-rest : goal.returns-in_err-room-clause-rest
-returns-in_err-room-clause-rest g c = refl
+pub returns-in_err-room-clause-lasting : goal.returns-in_err-room-clause-lasting
+returns-in_err-room-clause-lasting g c = refl
+
+pub returns-in_err-room-clause-unchanged : goal.returns-in_err-room-clause-unchanged
+returns-in_err-room-clause-unchanged g c = whatever_err c.from_residual.result refl
 
 pub returns-in_err-room-clause-begins : goal.returns-in_err-room-clause-begins
 returns-in_err-room-clause-begins g c = begins_itself (g.L.Ledger.journal c.args.ledger.now)

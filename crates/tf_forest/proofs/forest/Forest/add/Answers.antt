@@ -1,3 +1,4 @@
+use Rattle.std.specs.Prelude.{slice_get}
 use Rattle.std.proofs.Common.{◌≡◌, ◌∙◌, List, [], ◌∷◌, ◌++◌, sym, ap, subst}
 use Rattle.tf_journal.specs.declared.entry.Entry.{Entry}
 use Rattle.tf_journal.specs.Ledger.{CanGrow}
@@ -5,7 +6,7 @@ use Rattle.tf_rows.specs.Parts.{Parts, fresh_in}
 use Rattle.tf_rows.specs.declared.found.Found.{Found}
 use Rattle.tf_rows.specs.Changes.{CanChangeAll, all_changed}
 use Rattle.tf_rows.specs.Edits.{found_for}
-use Rattle.tf_forest.specs.Forest.{IsForest, Noted, View}
+use Rattle.tf_forest.specs.Forest.{IsForest, Noted, View, fresh_at_marks}
 use Rattle.tf_rows.specs.Spelled.{journal_in}
 use Rattle.tf_rows.specs.Nest.{LogsHaveValues}
 use Rattle.tf_publish.specs.Publish.{entries_waiting, tables_needed}
@@ -15,6 +16,7 @@ use Rattle.tf_rows.specs.Counts.{Sealed}
 use Rattle.tf_rows.proofs.CanChange.{can_any}
 use Rattle.tf_rows.specs.Next.{changes, changes_by}
 use Rattle.tf_forest.proofs.Notes.{IsGrown, grown_forest, grown_journal, holding_more}
+use Rattle.tf_forest.proofs.Marks.{Fresh, first_behind, marks_last}
 use Rattle.tf_forest.proofs.forest.Forest.add.Goals as goal
 
 pub add-requires-clause-can : goal.add-requires-clause-can
@@ -110,9 +112,10 @@ returns-in-Err-clause-addition g c = record {
 
 pub returns-in-Err-clause-err : goal.returns-in-Err-clause-err
 returns-in-Err-clause-err g c =
-    let seen : Parts → Sealed → View = λ rows sealed. record { journal = journal_in rows; sealed = sealed; fresh = listed (fresh_in rows); needed = tables_needed (fresh_in rows) sealed.tables; waiting = entries_waiting (fresh_in rows); clock = c.self.inside.clock; kept = c.self.inside.kept } in
+    let seen : Parts → Sealed → View = λ rows sealed. record { journal = journal_in rows; sealed = sealed; fresh = listed (fresh_in rows); marks = fresh_at_marks c.add.new.self rows; needed = tables_needed (fresh_in rows) sealed.tables; waiting = entries_waiting (fresh_in rows); clock = c.self.inside.clock; kept = c.self.inside.kept } in
     ap (λ (rows : Parts). seen rows (g.S.RowSet.sealed c.add.new.rows)) c.in-Err.ensures.err.0
     ∙ ap (λ (sealed : Sealed). seen (g.S.RowSet.parts c.self.inside.rows) sealed) c.in-Err.ensures.sealed
+    ∙ ap (λ (notes : List Noted). record (seen (g.S.RowSet.parts c.self.inside.rows) (g.S.RowSet.sealed c.self.inside.rows)) { marks = fresh_at_marks notes (g.S.RowSet.parts c.self.inside.rows) }) c.in-Err.ensures.err.1
     ∙ c.self.view_is
 
 pub after-requires : goal.after-requires
@@ -127,3 +130,28 @@ after-requires g c =
 pub look_up-found-requires-clause-held : goal.look_up-found-requires-clause-held
 look_up-found-requires-clause-held g c = λ id party there.
     c.rows_answer_look_ups.ensures.parties _ _ c.self.invariant.shows.sound c.self.invariant.shows.shows id ∙ c.self.invariant.resident id party there
+
+pub returns-clause-marks : goal.returns-clause-marks
+returns-clause-marks g c =
+    let new : Parts = g.S.RowSet.parts c.add.new.rows in
+    let note : Noted = record { steps = c.in-Ok.ensures.noted.steps; formers = c.formers_of-formers.result } in
+    ap (λ (notes : List Noted). fresh_at_marks notes new) c.in-Ok.ensures.noted.is ∙ marks_last c.self.inside.notes note new
+    ∙ ap (λ (rows : Parts). fresh_at_marks c.self.inside.notes rows ++ listed (fresh_in new) ∷ []) c.in-Ok.ensures.noted.back
+    ∙ ap (λ (v : View). v.marks ++ listed (fresh_in new) ∷ []) c.self.view_is
+
+pub returns-clause-first : goal.returns-clause-first
+returns-clause-first g c =
+    let old : Parts = g.S.RowSet.parts c.self.inside.rows in
+    let new : Parts = g.S.RowSet.parts c.add.new.rows in
+    let note : Noted = record { steps = c.in-Ok.ensures.noted.steps; formers = c.formers_of-formers.result } in
+    ap (λ (notes : List Noted). slice_get (fresh_at_marks notes new) 0) c.in-Ok.ensures.noted.is
+    ∙ ap (λ (marks : List Fresh). slice_get marks 0) (marks_last c.self.inside.notes note new)
+    ∙ ap (λ (rows : Parts). slice_get (fresh_at_marks c.self.inside.notes rows ++ listed (fresh_in new) ∷ []) 0) c.in-Ok.ensures.noted.back
+    ∙ first_behind c.self.inside.notes old (listed (fresh_in new) ∷ [])
+    ∙ ap (λ (v : View). slice_get v.marks 0) c.self.view_is
+
+pub returns-in-Err-clause-first : goal.returns-in-Err-clause-first
+returns-in-Err-clause-first g c =
+    ap (λ (rows : Parts). slice_get (fresh_at_marks c.add.new.self rows) 0) c.in-Err.ensures.err.0
+    ∙ ap (λ (notes : List Noted). slice_get (fresh_at_marks notes (g.S.RowSet.parts c.self.inside.rows)) 0) c.in-Err.ensures.err.1
+    ∙ ap (λ (v : View). slice_get v.marks 0) c.self.view_is

@@ -1,11 +1,11 @@
-use Rattle.std.proofs.Common.{◌≡◌, ◌+◌, ℕ, length, ap, subst, sym, ◌∙◌, arith, rules}
+use Rattle.std.proofs.Common.{◌≡◌, ◌+◌, ℕ, List, [], ◌∷◌, length, ap, subst, sym, ◌∙◌, arith, rules}
 use Rattle.std.proofs.lemmas.List.{take_all}
 use Rattle.tf_journal.specs.Journal.{IsUpTo}
 use Rattle.tf_manifest.specs.declared.row.Row.TheVariants as row
 use Rattle.tf_rows.specs.Edits.{party_of}
 use Rattle.tf_rows.specs.DueSet.{StayHeld}
 use Rattle.tf_rows.specs.Floors.{HaveFloors}
-use Rattle.tf_forest.specs.Forest.{View}
+use Rattle.tf_forest.specs.Forest.{Noted, View, fresh_at_marks}
 use Rattle.tf_rows.specs.Spelled.{journal_in}
 use Rattle.tf_rows.specs.Next.{content_in}
 use Rattle.tf_rows.specs.Counts.{Sealed}
@@ -56,5 +56,6 @@ returns-clause-rest g c =
     let rows : Parts = (g.S.RowSet.parts c.self.inside.rows) in
     let sealed : Sealed = g.S.RowSet.sealed c.self.inside.rows in
     let all : c.self.inside.kept + c.len.result ≡ length (journal_in rows) = omega (arith, c.self.invariant.count) in
-    let seen : ℕ → View = λ n. record { journal = journal_in rows; sealed = sealed; fresh = listed (fresh_in rows); needed = tables_needed (fresh_in rows) sealed.tables; waiting = entries_waiting (fresh_in rows); clock = c.args.moment; kept = n } in
-    ap seen all ∙ ap (λ (v : View). record v { clock = c.args.moment; kept = length v.journal }) c.self.view_is
+    let seen : List Noted → ℕ → View = λ ns n. record { journal = journal_in rows; sealed = sealed; fresh = listed (fresh_in rows); marks = fresh_at_marks ns rows; needed = tables_needed (fresh_in rows) sealed.tables; waiting = entries_waiting (fresh_in rows); clock = c.args.moment; kept = n } in
+    ap (λ (ns : List Noted). seen ns (c.self.inside.kept + c.len.result)) c.clear.ensures ∙ ap (seen []) all
+    ∙ ap (λ (v : View). record v { marks = v.fresh ∷ []; clock = c.args.moment; kept = length v.journal }) c.self.view_is

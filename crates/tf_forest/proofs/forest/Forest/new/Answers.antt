@@ -1,12 +1,13 @@
-use Rattle.std.proofs.Common.{◌≡◌, ℕ, List, [], sym, ap, subst}
+use Rattle.std.proofs.Common.{◌≡◌, ◌∙◌, ℕ, List, [], ◌∷◌, sym, ap, subst}
 use Rattle.tf_manifest.specs.declared.row.Row.{Row}
 use Rattle.tf_rows.specs.DueSet.{Keys}
 use Rattle.tf_rows.specs.Nest.{AreEmpty}
 use Rattle.tf_rows.specs.Parts.{Part, Parts, fresh_in}
 use Rattle.tf_publish.proofs.PublishRows.{none_needed, none_waits}
 use Rattle.tf_publish.proofs.Tables.{nothing_listed}
-use Rattle.tf_forest.specs.Forest.{IsForest, Noted}
+use Rattle.tf_forest.specs.Forest.{IsForest, Noted, fresh_at_marks}
 use Rattle.tf_rows.specs.declared.found.Party.{Party}
+use Rattle.tf_forest.proofs.Marks.{Fresh}
 use Rattle.tf_forest.proofs.Notes.{empty_forest, empty_journal}
 use Rattle.tf_forest.proofs.forest.Forest.new.Goals as goal
 
@@ -30,7 +31,8 @@ none_fresh rows empty r = ap (λ (part : Part). part.fresh) (empty r)
 pub returns-clause-fresh : goal.returns-clause-fresh
 returns-clause-fresh g c =
     let rows : Parts = g.S.RowSet.parts c.args.rows in
-    nothing_listed (fresh_in rows) (none_fresh rows c.requires)
+    let nothing = nothing_listed (fresh_in rows) (none_fresh rows c.requires) in
+    (nothing, ap (λ (notes : List Noted). fresh_at_marks notes rows) c.new.ensures ∙ ap (λ (fresh : Fresh). fresh ∷ []) nothing)
 
 pub returns-clause-nothing : goal.returns-clause-nothing
 returns-clause-nothing g c =

@@ -1,4 +1,5 @@
-use Rattle.std.proofs.Common.{◌≡◌, ◌+◌, ◌-◌, List, length, take, ap, subst, sym, arith}
+use Rattle.std.proofs.Common.{◌≡◌, ◌∙◌, ◌+◌, ◌-◌, List, length, take, ap, subst, sym, arith}
+use Rattle.std.specs.Prelude.{slice_get}
 use Rattle.std.proofs.lemmas.List.{take-take}
 use Rattle.tf_journal.specs.declared.entry.Entry.{Entry}
 use Rattle.tf_journal.specs.Journal.{IsUpTo}
@@ -10,6 +11,8 @@ use Rattle.tf_manifest.specs.declared.row.Row.TheVariants as row
 use Rattle.tf_rows.proofs.HeldKeys.{Free}
 use Rattle.tf_rows.proofs.Unvalued.{none_back}
 use Rattle.tf_forest.proofs.Notes.{cut_is_taken, cut_length}
+use Rattle.tf_forest.specs.Forest.{fresh_at_marks}
+use Rattle.tf_forest.proofs.Marks.{Fresh, first_taken}
 use Rattle.tf_forest.proofs.forest.Forest.undo.Goals as goal
 
 pub invariant_of-self : goal.invariant_of-self
@@ -43,3 +46,13 @@ invariant_of-self g c =
 
 pub undone-requires : goal.undone-requires
 undone-requires g c = g.met.S.AllRows.has_all row.Expiry
+
+pub returns-clause-marks : goal.returns-clause-marks
+returns-clause-marks g c =
+    c.undo_to.ensures.marks ∙ ap (λ (v : View). take (c.args.to.length - v.kept + 1) v.marks) c.self.view_is
+
+pub returns-clause-first : goal.returns-clause-first
+returns-clause-first g c =
+    ap (λ (marks : List Fresh). slice_get marks 0) c.undo_to.ensures.marks
+    ∙ first_taken (c.args.to.length - c.self.inside.kept) (fresh_at_marks c.self.inside.notes (g.S.RowSet.parts c.self.inside.rows))
+    ∙ ap (λ (v : View). slice_get v.marks 0) c.self.view_is

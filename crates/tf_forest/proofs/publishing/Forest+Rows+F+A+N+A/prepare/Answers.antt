@@ -2,7 +2,7 @@ use Rattle.std.proofs.Common.{◌≡◌, ◌+◌, List, length, refl, sym, ◌�
 use Rattle.std.specs.Prelude.{IfNone, IfSome}
 use Rattle.tf_journal.specs.declared.entry.Entry.{Entry}
 use Rattle.tf_rows.specs.Counts.{Counted, Sealed, counted}
-use Rattle.tf_forest.specs.Forest.{View}
+use Rattle.tf_forest.specs.Forest.{View, fresh_at_marks}
 use Rattle.tf_rows.specs.Spelled.{journal_in}
 use Rattle.tf_rows.specs.Nest.{IsTree, fits_row, has_each}
 use Rattle.tf_rows.specs.Parts.{Entries, parts_of}
@@ -10,7 +10,7 @@ use Rattle.tf_publish.specs.Publish.{entries_waiting, tables_needed}
 use Rattle.tf_publish.specs.Partly.{CountsParts}
 use Rattle.tf_publish.specs.Tables.{Publishes, by_name, listed}
 use Rattle.tf_manifest.specs.View.{ShowsJournal}
-use Rattle.tf_forest.proofs.Notes.{same_forest, same_journal}
+use Rattle.tf_forest.proofs.Notes.{all_kept, same_forest, same_journal}
 use Rattle.tf_publish.proofs.Bounds.{nothing_lost}
 use Rattle.tf_publish.proofs.Partly.{nothing_counted}
 use Rattle.tf_publish.proofs.Tables.{listed_back}
@@ -63,7 +63,10 @@ returns-clause-waits g c =
     let after : Entries = g.F.MutableRows.entries c.prepare_rows.new.rows.fresh in
     let old : Sealed = c.self.inside.rows.published in
     let new : Sealed = c.prepare_rows.new.rows.published in
-    unpublished before after old new (tables_needed before old.tables) c.prepare_rows.ensures.fresh c.prepare_rows.ensures.loses c.self.inside.clock c.self.inside.kept c.args.self.now c.self.view_is
+    let all : c.self.inside.kept ≡ length (journal_in (parts_of before old.tables)) =
+    ap (λ (v : View). v.kept) c.self.view_is ∙ c.requires ∙ ap (λ (v : View). length v.journal) (sym c.self.view_is) in
+    unpublished before after old new (tables_needed before old.tables) c.prepare_rows.ensures.fresh c.prepare_rows.ensures.loses c.self.inside.notes c.self.inside.clock c.self.inside.kept c.args.self.now
+    (all_kept has_each fits_row IsTree (parts_of before old.tables) c.self.inside.notes c.self.inside.kept c.self.inside.clock c.self.inside.floors c.self.inside.due c.self.inside.resident c.self.invariant all) c.self.view_is
     (ap (λ (v : View). v.needed) c.self.view_is)
     (same_journal c.rows_spell_the_journal_they_show.ensures (parts_of before old.tables) (parts_of after new.tables)
     (values_stay before after old new (tables_needed before old.tables) c.prepare_rows.ensures.fresh c.prepare_rows.ensures.loses) c.self.invariant.shows)
@@ -82,7 +85,7 @@ returns-clause-still g c = λ none.
     let old : Sealed = c.self.inside.rows.published in
     let new : Sealed = c.prepare_rows.new.rows.published in
     let published = c.prepare_rows.ensures.still (ap (λ (v : View). v.waiting) c.self.view_is ∙ none) in
-    let seen : Entries → Sealed → View = λ f s. record { journal = journal_in (parts_of f s.tables); sealed = s; fresh = listed f; needed = tables_needed f s.tables; waiting = entries_waiting f; clock = c.self.inside.clock; kept = c.self.inside.kept } in
+    let seen : Entries → Sealed → View = λ f s. record { journal = journal_in (parts_of f s.tables); sealed = s; fresh = listed f; marks = fresh_at_marks c.self.inside.notes (parts_of f s.tables); needed = tables_needed f s.tables; waiting = entries_waiting f; clock = c.self.inside.clock; kept = c.self.inside.kept } in
     ap (λ (f : Entries). seen f new) c.prepare_rows.ensures.fresh ∙ ap (λ (s : Sealed). seen before s) published ∙ c.self.view_is
 
 pub returns-clause-none : goal.returns-clause-none

@@ -35,3 +35,9 @@ returns-in_err-kept-clause-receipt g c = IfOk-from_err _ _ c.from_residual.ensur
 
 pub returns-in_err-kept-clause-refused : goal.returns-in_err-kept-clause-refused
 returns-in_err-kept-clause-refused g c = whatever_err c.from_residual.result (refl, refl)
+
+pub returns-clause-unchanged : goal.returns-clause-unchanged
+returns-clause-unchanged g c = c.create.ensures.unchanged
+
+pub returns-in_err-kept-clause-unchanged : goal.returns-in_err-kept-clause-unchanged
+returns-in_err-kept-clause-unchanged g c = whatever_err c.from_residual.result refl

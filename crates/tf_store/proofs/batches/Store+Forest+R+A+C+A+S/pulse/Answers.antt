@@ -1,9 +1,10 @@
-use Rattle.std.proofs.Common.{◌≡◌, ◌∙◌, ℕ, Result, Ok, Err, ap, length, subst, sym}
+use Rattle.std.proofs.Common.{◌≡◌, ◌∙◌, ℕ, Result, Ok, Err, OnErr, ap, length, subst, sym}
 use Rattle.tf_records.specs.declared.refusal.Refusal.{Refusal}
 use Rattle.tf_pending.specs.Pulse.{IsPulseRun}
 use Rattle.tf_forest.specs.Forest as forest
 use Rattle.tf_store.specs.Store.{View}
 use Rattle.tf_store.proofs.Kept.{all_wait_on, same_receipts, store_grows}
+use Rattle.tf_store.proofs.Unchanged.{unchanged_forest}
 use Rattle.tf_store.proofs.batches.Store+Forest+R+A+C+A+S.pulse.Goals as goal
 
 -- what is kept is all, after a pulse too
@@ -27,7 +28,7 @@ invariant_of-self g c =
     let waiting = c.self.inside.queue.waiting in
     store_grows old new c.self.inside.tally c.run_pulse.new.tally c.self.inside.public waiting waiting
     store ran.run.lawful (pulse_kept old new c.args.now c.args.max c.run_pulse.result ran.run store.kept)
-    ran.rest ran.begins ran.counted (all_wait_on old.journal new.journal waiting ran.begins store.waits)
+    ran.lasting ran.begins ran.counted (all_wait_on old.journal new.journal waiting ran.begins store.waits)
 
 pub returns-clause-waiting : goal.returns-clause-waiting
 returns-clause-waiting g c =
@@ -39,7 +40,7 @@ returns-clause-run g c =
     subst (λ (v : View). IsPulseRun (λ f. f.journal) (λ f. f.clock) (λ f. f.kept) v.forest c.run_pulse.new.ledger c.args.now c.args.max c.run_pulse.result) c.self.view_is c.run_pulse.ensures.run
 
 pub returns-clause-sealed : goal.returns-clause-sealed
-returns-clause-sealed g c = c.run_pulse.ensures.rest ∙ ap (λ (v : View). v.forest.sealed) c.self.view_is
+returns-clause-sealed g c = c.run_pulse.ensures.lasting ∙ ap (λ (v : View). v.forest.sealed) c.self.view_is
 
 pub returns-clause-readable : goal.returns-clause-readable
 returns-clause-readable g c = ap (λ (v : View). v.readable) c.self.view_is
@@ -49,3 +50,9 @@ returns-clause-share g c = c.run_pulse.ensures.share
 
 pub returns-clause-refused : goal.returns-clause-refused
 returns-clause-refused g c = c.run_pulse.ensures.refused
+
+pub returns-clause-unchanged : goal.returns-clause-unchanged
+returns-clause-unchanged g c =
+    subst (λ (v : View). OnErr c.run_pulse.result (c.run_pulse.new.ledger ≡ v.forest)) c.self.view_is
+    (unchanged_forest c.self.inside.forest c.run_pulse.new.ledger c.run_pulse.result c.run_pulse.ensures.run.unchanged c.run_pulse.ensures.unchanged c.self.invariant.kept
+    (record { at_rest = c.facts.ensures.at_rest; waits = c.facts.ensures.waits }) (record { at_rest = c.facts-2.ensures.at_rest; waits = c.facts-2.ensures.waits }))
