@@ -12,7 +12,7 @@ mod each;
 mod filter;
 
 use crate::each::answer_each;
-use crate::filter::answered;
+use crate::filter::Asked;
 pub use filter::{Answer, Filter};
 use std::alloc::Allocator;
 use std::marker::{Send, Sync};
@@ -40,14 +40,31 @@ where
     ensures ok { IfOk result (λ answers. AllZip (IsAnswer version.now) filters.now answers.items) }
     ensures refusal { IfErr result (λ refusal. refusal ≡ Refusal.NoMemory) }
 {
+    answer_filters(rt, alloc, version, filters)
+}
+
+/// The same of anything that answers filters.
+fn answer_filters<V, B, R>(
+    rt: &R,
+    alloc: B,
+    asked: &V,
+    filters: &[Filter],
+) -> Result<Vec<Answer<B>, B>, Refusal>
+where
+    V: Asked<B> + Sync,
+    B: Allocator + Copy + Send + Sync,
+    R: Threads + Sync,
+    ensures ok { IfOk result (λ answers. AllZip (IsAnswer (V.journal asked.now)) filters.now answers.items) }
+    ensures refusal { IfErr result (λ refusal. refusal ≡ Refusal.NoMemory) }
+{
     let heap = &alloc;
     answer_each(
         rt,
         alloc,
         filters,
         move |filter: &Filter| -> Result<Answer<B>, Refusal>
-            ensures ok { IfOk result (IsAnswer version.entry.now filter.now) }
+            ensures ok { IfOk result (IsAnswer (V.journal asked.entry.now) filter.now) }
             ensures refusal { IfErr result (λ refusal. refusal ≡ Refusal.NoMemory) }
-        { answered(*heap, version, filter) },
+        { asked.answered(*heap, filter) },
     )
 }

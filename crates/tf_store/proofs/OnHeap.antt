@@ -5,13 +5,11 @@ use Rattle.std.specs.contracts.impls.GlobalAllocator.TheImpl.{ghosts}
 use Rattle.tf_btree.proofs.node.Node.TheLaws.TheKnot as knot
 use Rattle.tf_btree.specs.contracts.tree.Tree as Tree
 use Rattle.tf_registry.specs.declared.naming.Naming as Naming
-use Rattle.tf_manifest.specs.contracts.manifest.Manifest as Manifest
 use Rattle.tf_query.specs.contracts.version.Version as Version
-use Rattle.tf_query.specs.contracts.version.Version.TheInside as VersionIn
 use Rattle.tf_mutable.specs.contracts.log.Log as Log
-use Rattle.tf_query.proofs.Crossing.{manifest-send, manifest-sync}
+use Rattle.tf_store.proofs.Crossing as crossing
 use denote.RattleType.{RattleType}
-use denote.Param.Send.{IsSend, IsSync, Frees, sendable, view_send, view_sync}
+use denote.Param.Send.{IsSend, IsSync, Frees, sendable}
 
 pub heap-send : IsSend Heap.the_row
 heap-send = search sendable depth 20
@@ -29,20 +27,8 @@ pub log-send : (V : RattleType) → IsSend V → IsSend (Log.the_row V Heap.the_
 log-send V V-send = search (crosses, sendable) depth 60 fits 20000
 
 module _ (N : RattleType) (n : Naming.Ghosts N.Denot) (N-send : IsSend N) (N-sync : IsSync N) where
-  tables-send : IsSend (Manifest.the_row Heap.the_row N ghosts n)
-  tables-send = manifest-send Heap.the_row ghosts heap-send heap-sync heap-frees N n N-send N-sync
-
-  tables-sync : IsSync (Manifest.the_row Heap.the_row N ghosts n)
-  tables-sync = manifest-sync Heap.the_row ghosts heap-send heap-sync heap-frees N n N-send N-sync
-
-  version_in-send : IsSend (VersionIn.the_row Heap.the_row N ghosts n)
-  version_in-send = search (tables-send, tables-sync, crosses, sendable) depth 60 fits 20000
-
   pub version-send : IsSend (Version.the_row Heap.the_row N ghosts n)
-  version-send = view_send (VersionIn.the_row Heap.the_row N ghosts n) _ _ _ _ version_in-send
-
-  version_in-sync : IsSync (VersionIn.the_row Heap.the_row N ghosts n)
-  version_in-sync = search (tables-send, tables-sync, crosses, sendable) depth 60 fits 20000
+  version-send = crossing.version-send Heap.the_row ghosts heap-send heap-sync heap-frees N n N-send N-sync
 
   pub version-sync : IsSync (Version.the_row Heap.the_row N ghosts n)
-  version-sync = view_sync (VersionIn.the_row Heap.the_row N ghosts n) _ _ _ _ version_in-sync
+  version-sync = crossing.version-sync Heap.the_row ghosts heap-send heap-sync heap-frees N n N-send N-sync

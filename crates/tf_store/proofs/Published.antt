@@ -1,6 +1,6 @@
 -- A forest that was prepared, shown and settled is published; and one that was prepared alone is as it was.
 use mathlib.Core.List.{IsPrefix}
-use Rattle.std.proofs.Common.{◌≡◌, ◌≢◌, ◌∙◌, ◌+◌, ◌<◌, ◌≤◌, ℕ, cond, List, Option, Some, None, Result, Ok, Err, IfErr, OnErr, OnOk, inl, inr, refl, length, sym, ap, subst, arith}
+use Rattle.std.proofs.Common.{◌≡◌, ◌≢◌, ◌∙◌, ◌+◌, ◌<◌, ◌≤◌, ℕ, cond, List, Option, Some, None, Result, Ok, Err, IfErr, IfNone, IfOk, OnErr, OnOk, inl, inr, refl, length, sym, ap, subst, arith}
 use Rattle.std.specs.Prelude.{◌==◌, if◌then◌else◌, take}
 use Rattle.std.proofs.lemmas.Bool.{false≢true}
 use Rattle.std.proofs.lemmas.List.{length-take-le}
@@ -17,8 +17,10 @@ use Rattle.tf_manifest.specs.Kinds.{kind_of}
 use Rattle.tf_registry.specs.Limit.{Pushed}
 use Rattle.tf_manifest.specs.View.{ShowsJournal, View as Tables, content_in, value_in_kind}
 use Rattle.tf_rows.specs.Counts.{Counted, IsReady, Sealed, counted, settled}
-use Rattle.tf_publish.specs.Tables.{Publishes, Waits, by_name, nothing_fresh}
-use Rattle.tf_publish.proofs.Tables.{nothing_waits_fresh, nothing_waits_needed}
+use Rattle.tf_rows.specs.Parts.{Entries}
+use Rattle.tf_publish.specs.Publish.{entries_waiting, tables_needed}
+use Rattle.tf_publish.specs.Tables.{Publishes, Waits, by_name, listed, nothing_fresh}
+use Rattle.tf_publish.proofs.Tables.{listed_waits, nothing_waits_fresh, nothing_waits_needed}
 use Rattle.tf_forest.specs.Forest.{View}
 use Rattle.tf_forest.specs.Unpublished.{IsUnpublished}
 use Rattle.tf_forest.proofs.Idle.{publishes_nothing}
@@ -26,7 +28,7 @@ use Rattle.tf_store.specs.Public.{IsPublic, PublicView, all_public}
 use Rattle.tf_store.specs.Publish.{IsIdle, IsPublish, IsTaken}
 use Rattle.tf_store.specs.Receipt.{Waiting}
 use Rattle.tf_store.specs.Store.{IsStore}
-use Rattle.tf_store.proofs.Kept.{public_stays, store_stays, whole_beginning}
+use Rattle.tf_store.proofs.Kept.{no_longer, public_stays, store_shows, store_stays, whole_beginning}
 
 ok_not_full : {X : Type 0} (x : X) → Ok x ≡ Err RegistryFull → ⊥
 ok_not_full x is = cc
@@ -52,6 +54,15 @@ unpublished_shows old new lost journal shows r key =
 
 unpublished_limit : (old new : View) → IsUnpublished old new → new.sealed.tables.pushed.limit ≡ old.sealed.tables.pushed.limit
 unpublished_limit old new lost = ap (λ (s : Sealed). s.tables.pushed.limit) lost.loses.is
+
+-- what waits in a forest, whose mutable tables have these entries in front of these tables
+pub waits_as : (fresh : Entries) (tables : Tables) (view : View) → listed fresh ≡ view.fresh → tables_needed fresh tables ≡ view.needed → entries_waiting fresh ≡ view.waiting
+    → tables ≡ view.sealed.tables → Waits view.fresh view.sealed.tables view.needed view.waiting
+waits_as fresh tables view is needed waiting sealed =
+    subst (λ (t : Tables). Waits view.fresh t view.needed view.waiting) sealed
+    (subst (λ l. Waits l tables view.needed view.waiting) is
+    (subst (λ n. Waits (listed fresh) tables n view.waiting) needed
+    (subst (λ n. Waits (listed fresh) tables (tables_needed fresh tables) n) waiting (listed_waits fresh tables))))
 
 -- where nothing waits, all of the journal is shown already
 pub all_shown : (old : View) (shown : ℕ) → ((view : Tables) (first second : List Entry) → IsSound first → IsSound second → ShowsJournal view first → ShowsJournal view second → first ≡ second)
@@ -179,6 +190,30 @@ all_is_seen forest public is all =
     let readable : public.readable ≡ forest.journal = is.readable ∙ ap (λ n. take n forest.journal) all ∙ take-length forest.journal in
     ap (λ l. seen l public.shown public.readable) front ∙ ap (λ n. seen forest.journal n public.readable) all ∙ ap (λ l. seen forest.journal (length forest.journal) l) readable
 
+-- where readers see all of the journal, all of it is in the history
+pub front_of_all : (forest : View) (public : PublicView) → IsPublic forest public → public.readable ≡ forest.journal → public.front ≡ forest.journal
+front_of_all forest public is seen =
+    let within : public.shown ≤ length forest.journal = omega (arith, is.shown, no_longer public.front forest.journal is.begins) in
+    let all : public.shown ≡ length forest.journal = sym (length-take-le public.shown forest.journal within) ∙ ap length (sym is.readable ∙ seen) in
+    whole_beginning public.front forest.journal is.begins (omega (arith, is.shown, all))
+
+-- what readers see after a publish, after a refusal, and where nothing waited
+pub readable_all : {X : Type 0} (result : Result X Refusal) (old new : View) (after : PublicView) → new.journal ≡ old.journal
+    → OnOk result (after ≡ all_public new.journal after.publications) → OnOk result (after.readable ≡ old.journal)
+readable_all (Ok x) old new after same all = ap (λ (p : PublicView). p.readable) all ∙ same
+readable_all (Err refusal) old new after same all = tt
+
+pub readable_as : {X : Type 0} (result : Result X Refusal) (public after : PublicView) → OnErr result ((after.shown ≡ public.shown) × (after.readable ≡ public.readable))
+    → OnErr result (after.readable ≡ public.readable)
+readable_as (Ok x) public after same = tt
+readable_as (Err refusal) public after same = same.1
+
+pub readable_idle : {X : Type 0} (result : Result (Option X) Refusal) (public after : PublicView) → IfOk result (λ given. IfNone given (after ≡ public))
+    → IfOk result (λ given. IfNone given (after.readable ≡ public.readable))
+readable_idle (Ok (Some x)) public after same = tt
+readable_idle (Ok None) public after same = ap (λ (p : PublicView). p.readable) same
+readable_idle (Err refusal) public after same = tt
+
 -- whatever was answered with it
 pub published_as : {X Y : Type 0} (old new : View) (x : X) (y : Y) → IsPublish {X = X} old new (Ok x) → IsPublish {X = Y} old new (Ok y)
 published_as old new x y is = record {
@@ -252,3 +287,13 @@ store_refused old new counted public after waiting store refusal publish begins 
     store_stays old new counted public after waiting store publish.journal publish.clock publish.kept
     (public_stays old new public after store.public publish.journal (unpublished_shows old new publish.err (take public.shown old.journal))
     (subst (IsPrefix after.front) publish.journal begins) further same.0 same.1)
+
+-- and so does a store that was published, or whose publish was refused
+pub store_brought : {X : Type 0} (old new : View) (counted : ℕ) (public after : PublicView) (waiting : List Waiting) (result : Result X Refusal)
+    → IsStore old counted public waiting → IsPublish {X = X} old new result → OnOk result (after ≡ all_public new.journal after.publications)
+    → IsPrefix after.front new.journal → length public.front ≤ length after.front
+    → OnErr result ((after.shown ≡ public.shown) × (after.readable ≡ public.readable)) → IsStore new counted after waiting
+store_brought old new counted public after waiting (Ok x) store publish all begins further same =
+    store_shows old new counted public after waiting store publish.journal publish.clock publish.kept publish.shows all
+store_brought old new counted public after waiting (Err refusal) store publish all begins further same =
+    store_refused old new counted public after waiting store refusal publish begins further same

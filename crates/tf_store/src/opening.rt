@@ -1,5 +1,5 @@
 //! New stores.
-ghost use Rattle.std.specs.Prelude.{◌≡◌, ◌<◌, ◌≤◌, ℕ, [], true, is_ok, vec_len, IfOk, IfErr};
+ghost use Rattle.std.specs.Prelude.{◌≡◌, ◌<◌, ◌≤◌, ℕ, [], true, is_ok, vec_len, Ok, IfOk, IfErr};
 ghost use Rattle.std.specs.List.{All};
 ghost use Rattle.tf_history.specs.Written.{nothing_written};
 ghost use Rattle.tf_manifest.specs.Registries.{AreShelves};
@@ -7,9 +7,8 @@ ghost use Rattle.tf_rows.specs.Counts.{nothing_sealed};
 ghost use Rattle.tf_rows.specs.Nest.{AreEmpty};
 ghost use Rattle.tf_publish.specs.Tables.{nothing_fresh};
 ghost use Rattle.tf_readers.specs.Reader.{HasSeen};
-ghost use Rattle.tf_store.specs.Public.{nothing_public};
 
-use crate::public::{Public, first_versions, open_public};
+use crate::public::{Public, first_versions};
 use crate::queue::Queue;
 use crate::tally::Tally;
 use crate::{BlankStore, Share, Store, StoreName, StoreOf, StoredCopies, StoredForest, VersionOf};
@@ -21,7 +20,7 @@ use tf_history::Writer;
 use tf_manifest::Registries;
 use tf_publish::Rows;
 use tf_query::Version;
-use tf_readers::{Copies, Publishable, Reader, empty_manifests_show_nothing};
+use tf_readers::{Copies, Publishable, Published, Reader, empty_manifests_show_nothing, open};
 use tf_records::Refusal;
 use tf_rows::{AllRows, EmptyRows};
 
@@ -88,16 +87,38 @@ pub type NewStore<T, V, A, S, R> = (
     Vec<Reader<V, A, S>, A>,
 );
 
+/// Both of what was made, or the refusal of either.
+fn both<X: Drop, Y: Drop>(
+    first: Result<X, Refusal>,
+    second: Result<Y, Refusal>,
+) -> Result<(X, Y), Refusal>
+    requires first { IfErr first (λ refusal. refusal ≡ Refusal.NoMemory) }
+    requires second { IfErr second (λ refusal. refusal ≡ Refusal.NoMemory) }
+    ensures first { IfOk result (λ r. first ≡ Ok r.0) }
+    ensures second { IfOk result (λ r. second ≡ Ok r.1) }
+    ensures refusal { IfErr result (λ refusal. refusal ≡ Refusal.NoMemory) }
+{
+    let first = match first {
+        Ok(first) => first,
+        Err(refusal) => return Err(refusal),
+    };
+    match second {
+        Ok(second) => Ok((first, second)),
+        Err(refusal) => Err(refusal),
+    }
+}
+
 /// A new store over the rows `R`, its shares, and what was opened beside the copies `C` that its readers enter.
 type Opening<R, C, H, A, S> = (Store<Forest<R, A>, C, A, S>, Vec<Share<S>, A>, H);
 
-/// An empty store with its shares, over what was opened and rows that were made, or the refusal of either. It knows the rows by
-/// what they can do alone, since they are many types deep, and the rest by what copies show.
+/// An empty store with its shares, over copies that were opened and rows that were made, or the refusal of either. It knows the
+/// rows by what they can do alone, since they are many types deep, and copies by what they show.
 fn over_made<R, C, H, A, S>(
     alloc: A,
-    book: Book<S>,
+    names: Names<S>,
     shares: Vec<Share<S>, A>,
-    opened: Result<(Public<C, A, S>, H), Refusal>,
+    latest: Version<A, S>,
+    opened: Result<(C, H), Refusal>,
     rows: Result<R, Refusal>,
 ) -> Result<Opening<R, C, H, A, S>, Refusal>
 where
@@ -106,8 +127,9 @@ where
     H: Drop,
     A: Allocator + Copy,
     S: StoreName,
-    requires book { book.total ≡ 0 }
-    requires nothing { IfOk opened (λ o. o.0 ≡ nothing_public) }
+    requires names { (names.0.total ≡ 0) × (names.1 ≡ nothing_written) }
+    requires latest { latest ≡ [] }
+    requires shown { IfOk opened (λ o. C.shown o.0 ≡ []) }
     requires none { IfErr opened (λ refusal. refusal ≡ Refusal.NoMemory) }
     requires empty { IfOk rows (λ rows. AreEmpty (R.parts rows)) }
     requires sealed { (limit : ℕ) × IfOk rows (λ rows. R.sealed rows ≡ nothing_sealed limit) }
@@ -117,65 +139,26 @@ where
     ensures readable { IfOk result (λ r. r.0.readable ≡ []) }
     ensures sealed { (limit : ℕ) → IfOk rows (λ rows. R.sealed rows ≡ nothing_sealed limit) → IfOk result (λ r. r.0.forest.sealed ≡ nothing_sealed limit) }
     ensures shares { IfOk result (λ r. r.1 ≡ shares) }
+    ensures beside { IfOk result (λ r. IfOk opened (λ o. r.2 ≡ o.1)) }
     ensures opened { is_ok result ≡ true → is_ok opened ≡ true }
-    ensures beside { IfOk opened (λ o. IfOk result (λ r. r.2 ≡ o.1)) }
     ensures refusal { IfErr result (λ refusal. refusal ≡ Refusal.NoMemory) }
 {
-    let (public, beside) = match opened {
-        Ok(opened) => opened,
-        Err(refusal) => return Err(refusal),
-    };
-    let rows = match rows {
-        Ok(rows) => rows,
-        Err(refusal) => return Err(refusal),
-    };
-    empty_manifests_show_nothing();
-    let store = Store {
-        forest: Forest::new(alloc, rows),
-        tally: Tally::new(book),
-        public,
-        queue: Queue::new(alloc),
-        alloc,
-    };
-    Ok((store, shares, beside))
-}
-
-/// An empty store over these registries, of what was begun for it, and so many readers, or fewer where the copies have no
-/// place for more. The versions are those for the store and for readers. It knows the latter by what can be published alone.
-fn over_registries<T, V, A, S, R>(
-    alloc: A,
-    rt: R,
-    registries: &Registries<A>,
-    begun: Result<Begun<V, A, S>, Refusal>,
-    count: u32,
-    readers: u32,
-) -> Result<NewStore<T, V, A, S, R>, Refusal>
-where
-    T: EmptyRows<A> + Drop,
-    V: Publishable + Drop,
-    A: Allocator + Copy,
-    S: StoreName,
-    R: Wait + Drop,
-    requires names { IfOk begun (λ b. (b.0.0.total ≡ 0) × (b.0.1 ≡ nothing_written)) }
-    requires shares { IfOk begun (λ b. (vec_len b.1 ≡ count) × All (λ s. s ≡ 0) b.1.items) }
-    requires versions { IfOk begun (λ b. (b.2.0 ≡ []) × (V.journal b.2.1 ≡ [])) }
-    requires refusal { IfErr begun (λ refusal. refusal ≡ Refusal.NoMemory) }
-    requires registries { AreShelves S.shelf registries.now }
-    ensures empty { IfOk result (λ r. (r.0.forest.journal ≡ []) × (r.0.forest.clock ≡ 0) × (r.0.waiting ≡ [])) }
-    ensures fresh { IfOk result (λ r. (r.0.forest.fresh ≡ nothing_fresh) × (r.0.forest.needed ≡ 0) × (r.0.forest.waiting ≡ 0)) }
-    ensures readable { IfOk result (λ r. r.0.readable ≡ []) }
-    ensures sealed { IfOk result (λ r. r.0.forest.sealed ≡ nothing_sealed registries.now.limit) }
-    ensures shares { IfOk result (λ r. (vec_len r.1 ≡ count) × All (λ s. s ≡ 0) r.1.items) }
-    ensures readers { IfOk result (λ r. (vec_len r.2 ≤ readers) × All (HasSeen []) r.2.items) }
-    ensures refusal { IfErr result (λ refusal. refusal ≡ Refusal.NoMemory) }
-{
-    let ((book, writer), shares, versions) = match begun {
-        Ok(begun) => begun,
-        Err(refusal) => return Err(refusal),
-    };
-    let opened = open_public(alloc, rt, writer, versions, readers);
-    let rows = Rows::new(alloc, registries);
-    over_made(alloc, book, shares, opened, rows)
+    match both(opened, rows) {
+        Ok(made) => {
+            let ((copies, beside), rows) = made;
+            let (book, writer) = names;
+            empty_manifests_show_nothing();
+            let store = Store {
+                forest: Forest::new(alloc, rows),
+                tally: Tally::new(book),
+                public: Public::empty(writer, copies, latest),
+                queue: Queue::new(alloc),
+                alloc,
+            };
+            Ok((store, shares, beside))
+        }
+        Err(refusal) => Err(refusal),
+    }
 }
 
 impl<T, V, A, S, R> Store<Forest<Rows<T, A, S>, A>, Copies<V, A, S, R>, A, S>
@@ -209,14 +192,15 @@ where
         ensures readers { IfOk result (λ r. (vec_len r.2 ≤ readers) × All (HasSeen []) r.2.items) }
         ensures refusal { IfErr result (λ refusal. refusal ≡ Refusal.NoMemory) }
     {
-        over_registries(
-            alloc,
-            rt,
-            registries,
-            begin(alloc, registries, blank, shares),
-            shares,
-            readers,
-        )
+        let (names, shares, (latest, version)) = match begin(alloc, registries, blank, shares) {
+            Ok(begun) => begun,
+            Err(refusal) => return Err(refusal),
+        };
+        let page = Published::new(version, names.1.front());
+        let opened = open(alloc, rt, &page, readers);
+        drop(page);
+        let rows = Rows::new(alloc, registries);
+        over_made(alloc, names, shares, latest, opened, rows)
     }
 }
 

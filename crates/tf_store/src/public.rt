@@ -1,25 +1,20 @@
 //! What a store published.
 ghost use mathlib.Core.List.{IsPrefix};
-ghost use Rattle.std.specs.Prelude.{◌≡◌, ◌+◌, ◌≤◌, [], length, vec_len, is_ok, OnErr, OnOk, IfErr, IfOk};
-ghost use Rattle.std.specs.List.{All};
+ghost use Rattle.std.specs.Prelude.{◌≡◌, ◌+◌, ◌≤◌, [], length, OnErr, OnOk, IfErr, IfOk};
 ghost use Rattle.tf_history.specs.Written.{nothing_written};
 ghost use Rattle.tf_journal.specs.Lawful.{IsLawful};
 ghost use Rattle.tf_manifest.specs.Registries.{AreShelves};
 ghost use Rattle.tf_manifest.specs.View.{ShowsJournal};
-ghost use Rattle.tf_readers.specs.Reader.{HasSeen};
 ghost use Rattle.tf_store.specs.Public.{ReachesUnlessFull, all_public, nothing_public};
 
 use crate::{StoreName, StoredCopies, VersionCopies};
 use std::alloc::Allocator;
 use std::marker::Model;
-use std::sync::Wait;
 use tf_forest::Forest;
 use tf_history::{Front, Writer};
 use tf_manifest::{Manifest, Registries};
 use tf_query::Version;
-use tf_readers::{
-    Copies, Publishable, Published, Reader, Shows, empty_manifests_show_nothing, open, version_of,
-};
+use tf_readers::{Shows, empty_manifests_show_nothing, version_of};
 use tf_records::Refusal;
 use tf_rows::AllRows;
 
@@ -47,6 +42,21 @@ impl<C: StoredCopies + Drop, A: Allocator, S: StoreName> Model for Public<C, A, 
 }
 
 impl<C: StoredCopies + Drop, A: Allocator, S: StoreName> Public<C, A, S> {
+    /// Nothing that is published yet, over copies and a version that show so.
+    pub(crate) fn empty(writer: Writer<S>, copies: C, latest: Version<A, S>) -> Public<C, A, S>
+        requires empty { writer ≡ nothing_written }
+        requires copies { C.shown copies ≡ [] }
+        requires latest { latest ≡ [] }
+        ensures { result ≡ nothing_public }
+    {
+        Public {
+            shown: writer.front().again(),
+            writer,
+            copies,
+            latest,
+        }
+    }
+
     /// The history as far as it goes.
     pub(crate) fn front(&self) -> &Front<S>
         ensures { result.now ≡ self.now.front }
@@ -68,116 +78,6 @@ impl<C: StoredCopies + Drop, A: Allocator, S: StoreName> Public<C, A, S> {
     }
 }
 
-/// What is published at first: no tables, which show that nothing was published. The only refusal is `NoMemory`.
-fn first_version<A: Allocator + Copy, S: StoreName>(
-    alloc: A,
-    registries: &Registries<A>,
-    front: &Front<S>,
-) -> Result<Version<A, S>, Refusal>
-    requires empty { front.now ≡ [] }
-    requires registries { AreShelves S.shelf registries.now }
-    ensures nothing { IfOk result (λ version. version ≡ []) }
-    ensures refusal { IfErr result (λ refusal. refusal ≡ Refusal.NoMemory) }
-{
-    empty_manifests_show_nothing();
-    let tables = match Manifest::new(registries, alloc) {
-        Ok(tables) => tables,
-        Err(refusal) => return Err(refusal),
-    };
-    let version = version_of(alloc, &tables, front);
-    drop(tables);
-    version
-}
-
-/// What is published at first, for the store and for its readers. The only refusal is `NoMemory`.
-pub(crate) fn first_versions<A: Allocator + Copy, S: StoreName>(
-    alloc: A,
-    registries: &Registries<A>,
-    front: &Front<S>,
-) -> Result<(Version<A, S>, Version<A, S>), Refusal>
-    requires empty { front.now ≡ [] }
-    requires registries { AreShelves S.shelf registries.now }
-    ensures nothing { IfOk result (λ versions. (versions.0 ≡ []) × (versions.1 ≡ [])) }
-    ensures refusal { IfErr result (λ refusal. refusal ≡ Refusal.NoMemory) }
-{
-    let first = first_version(alloc, registries, front)?;
-    let again = first.again()?;
-    Ok((first, again))
-}
-
-/// A history with what is published of it, and what was opened beside the copies.
-type Opened<C, H, A, S> = (Public<C, A, S>, H);
-
-/// Nothing that is published yet, over copies that were opened or refused, and what was opened beside them. It knows both by
-/// nothing but what copies show.
-fn nothing_yet<C, H, A, S>(
-    writer: Writer<S>,
-    latest: Version<A, S>,
-    opened: Result<(C, H), Refusal>,
-) -> Result<Opened<C, H, A, S>, Refusal>
-where
-    C: StoredCopies + Drop,
-    H: Drop,
-    A: Allocator,
-    S: StoreName,
-    requires empty { writer ≡ nothing_written }
-    requires latest { latest ≡ [] }
-    requires shown { IfOk opened (λ o. C.shown o.0 ≡ []) }
-    requires refusal { IfErr opened (λ refusal. refusal ≡ Refusal.NoMemory) }
-    ensures nothing { IfOk result (λ r. r.0 ≡ nothing_public) }
-    ensures same { is_ok result ≡ is_ok opened }
-    ensures beside { IfOk opened (λ o. IfOk result (λ r. r.1 ≡ o.1)) }
-    ensures refusal { IfErr result (λ refusal. refusal ≡ Refusal.NoMemory) }
-{
-    match opened {
-        Ok((copies, beside)) => {
-            let public = Public {
-                shown: writer.front().again(),
-                writer,
-                copies,
-                latest,
-            };
-            Ok((public, beside))
-        }
-        Err(refusal) => {
-            drop(latest);
-            Err(refusal)
-        }
-    }
-}
-
-/// Copies of what is published, with so many readers.
-type Shown<V, A, S, R> = Opened<Copies<V, A, S, R>, Vec<Reader<V, A, S>, A>, A, S>;
-
-/// Nothing that is published yet, and so many readers, or fewer where the copies have no place for more. The versions are those
-/// for the store and for readers. It knows the latter by what can be published alone.
-///
-/// `NoMemory` is the only refusal.
-pub(crate) fn open_public<V, A, S, R>(
-    alloc: A,
-    rt: R,
-    writer: Writer<S>,
-    versions: (Version<A, S>, V),
-    readers: u32,
-) -> Result<Shown<V, A, S, R>, Refusal>
-where
-    V: Publishable + Drop,
-    A: Allocator + Copy,
-    S: StoreName,
-    R: Wait + Drop,
-    requires empty { writer ≡ nothing_written }
-    requires versions { (versions.0 ≡ []) × (V.journal versions.1 ≡ []) }
-    ensures nothing { IfOk result (λ r. r.0 ≡ nothing_public) }
-    ensures readers { IfOk result (λ r. (vec_len r.1 ≤ readers) × All (HasSeen []) r.1.items) }
-    ensures refusal { IfErr result (λ refusal. refusal ≡ Refusal.NoMemory) }
-{
-    let (latest, version) = versions;
-    let page = Published::new(version, writer.front());
-    let opened = open(alloc, rt, &page, readers);
-    drop(page);
-    nothing_yet(writer, latest, opened)
-}
-
 /// Three owners of one version.
 type Owners<W> = (W, W, W);
 
@@ -197,6 +97,46 @@ fn owners_of<A: Allocator + Copy, S: StoreName>(
     let second = first.again()?;
     let third = first.again()?;
     Ok((first, second, third))
+}
+
+/// Two of three owners.
+fn two_of<W>(owners: Result<Owners<W>, Refusal>) -> Result<(W, W), Refusal>
+where
+    W: Shows + Drop,
+    requires versions { IfOk owners (λ o. (W.journal o.0 ≡ []) × ((W.journal o.1 ≡ []) × (W.journal o.2 ≡ []))) }
+    requires refusal { IfErr owners (λ refusal. refusal ≡ Refusal.NoMemory) }
+    ensures nothing { IfOk result (λ two. (W.journal two.0 ≡ []) × (W.journal two.1 ≡ [])) }
+    ensures refusal { IfErr result (λ refusal. refusal ≡ Refusal.NoMemory) }
+{
+    match owners {
+        Ok((first, second, third)) => {
+            drop(third);
+            Ok((first, second))
+        }
+        Err(refusal) => Err(refusal),
+    }
+}
+
+/// What is published at first, for the store and for its readers: no tables, which show that nothing was published. The only
+/// refusal is `NoMemory`.
+pub(crate) fn first_versions<A: Allocator + Copy, S: StoreName>(
+    alloc: A,
+    registries: &Registries<A>,
+    front: &Front<S>,
+) -> Result<(Version<A, S>, Version<A, S>), Refusal>
+    requires empty { front.now ≡ [] }
+    requires registries { AreShelves S.shelf registries.now }
+    ensures nothing { IfOk result (λ versions. (versions.0 ≡ []) × (versions.1 ≡ [])) }
+    ensures refusal { IfErr result (λ refusal. refusal ≡ Refusal.NoMemory) }
+{
+    empty_manifests_show_nothing();
+    let tables = match Manifest::new(registries, alloc) {
+        Ok(tables) => tables,
+        Err(refusal) => return Err(refusal),
+    };
+    let owners = owners_of(alloc, &tables, front);
+    drop(tables);
+    two_of(owners)
 }
 
 /// Shows readers a version of all of a front's journal, if there is one: copies show it, it is the latest, and so much of the

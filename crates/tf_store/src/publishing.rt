@@ -50,7 +50,8 @@ where
     ensures same { IfOk result (λ given. IfNone given (public.new ≡ public.old)) }
 {
     manifest_shows_one_journal();
-    forest.facts();
+    // It tells how many tables are needed for what waits.
+    sealed_tables(forest);
     forest.facts_of_rows();
     let Some(prepared) = forest.prepare(rt)? else {
         return Ok(None);
@@ -74,6 +75,42 @@ where
     S: StoreName,
     C: VersionCopies<Version<A, S>, S> + Drop,
 {
+    /// Publishes, and shows readers all that is stored, but that receipts go on waiting. Gives a version of it, one more owner of
+    /// what readers see, or none where nothing waited.
+    fn show_stored<W: Wait>(&mut self, rt: &W) -> Result<Option<Version<A, S>>, Refusal>
+        ensures publish { IsPublish self.old.forest self.new.forest result }
+        ensures parts { OnErr result (CountsParts (by_name self.old.forest.fresh) self.old.forest.sealed self.new.forest.sealed) }
+        ensures version { IfOk result (λ given. IfSome given (λ version. version ≡ self.old.forest.journal)) }
+        ensures idle { IfOk result (λ given. IfNone given (IsIdle self.old.forest self.new.forest)) }
+        ensures uncounted { IfOk result (λ given. IfNone given (CountsParts (by_name self.old.forest.fresh) self.old.forest.sealed self.new.forest.sealed)) }
+        ensures waiting { self.new.waiting ≡ self.old.waiting }
+        ensures readable { OnOk result (self.new.readable ≡ self.old.forest.journal) }
+        ensures unread { OnErr result (self.new.readable ≡ self.old.readable) }
+        ensures unchanged { IfOk result (λ given. IfNone given (self.new.readable ≡ self.old.readable)) }
+    {
+        bring_up(self.alloc, rt, &mut self.forest, &mut self.public)
+    }
+
+    /// The version that readers see, with one more owner. It takes no memory, and `NoMemory` is the only refusal.
+    fn seen(&self) -> Result<Version<A, S>, Refusal>
+        ensures version { IfOk result (λ version. version ≡ self.now.readable) }
+        ensures refusal { IfErr result (λ refusal. refusal ≡ Refusal.NoMemory) }
+    {
+        self.public.version()
+    }
+
+    /// Hands out the receipts of all that wait, in their order, once readers see all of the journal. It takes no memory.
+    fn hand_over(&mut self) -> Vec<Receipt<A, S>, A>
+        requires { self.old.readable ≡ self.old.forest.journal }
+        ensures receipts { result.items ≡ self.old.waiting }
+        ensures own { All (IsReceiptOf self.old.forest.journal) result.items }
+        ensures handed { self.new.waiting ≡ [] }
+        ensures forest { self.new.forest ≡ self.old.forest }
+        ensures readable { self.new.readable ≡ self.old.readable }
+    {
+        self.queue.hand_over(self.alloc, self.public.front())
+    }
+
     /// Seals what was stored since the last publish, so that versions and readers show it, and hands out the receipts of all
     /// batches that waited, in their order.
     ///
@@ -97,10 +134,11 @@ where
         ensures readable { OnOk result (self.new.readable ≡ self.old.forest.journal) }
         ensures unread { OnErr result (self.new.readable ≡ self.old.readable) }
     {
-        let public = &mut self.public;
-        let _version = bring_up(self.alloc, rt, &mut self.forest, public)?;
-        let front = self.public.front();
-        Ok(self.queue.hand_over(self.alloc, front))
+        match self.show_stored(rt) {
+            Ok(version) => drop(version),
+            Err(refusal) => return Err(refusal),
+        }
+        Ok(self.hand_over())
     }
 
     /// Publishes, as `publish` does, for readers too, but that receipts go on waiting, and gives a version of the journal: one more
@@ -116,9 +154,9 @@ where
         ensures readable { OnOk result (self.new.readable ≡ self.old.forest.journal) }
         ensures unread { OnErr result (self.new.readable ≡ self.old.readable) }
     {
-        match bring_up(self.alloc, rt, &mut self.forest, &mut self.public) {
+        match self.show_stored(rt) {
             Ok(Some(version)) => Ok(version),
-            Ok(None) => self.public.version(),
+            Ok(None) => self.seen(),
             Err(refusal) => Err(refusal),
         }
     }

@@ -5,6 +5,7 @@ ghost use Rattle.tf_journal.specs.Journal.{IsUpTo};
 ghost use Rattle.tf_journal.specs.Laws.{IsWithinLimits};
 ghost use Rattle.tf_journal.specs.Lawful.{IsLawful, IsLawfulAt};
 ghost use Rattle.tf_manifest.specs.View.{ShowsJournal};
+ghost use Rattle.tf_publish.specs.Tables.{Waits};
 ghost use Rattle.tf_rows.specs.Counts.{AreBounded};
 ghost use Rattle.tf_store.specs.Book.{book_of, failed_of};
 
@@ -67,11 +68,12 @@ impl<F: StoredForest + Drop, C: StoredCopies + Drop, A: Allocator + Copy, S: Sto
     ghost invariant = { λ s. IsStore (F.seen s.forest) s.tally s.public s.queue.waiting };
 }
 
-/// The sealed tables of a forest.
+/// The sealed tables of a forest. What waits, and how many tables a publish needs, is counted from what its mutable tables have.
 pub(crate) fn sealed_tables<T: MutableRows + Drop, A: Allocator + Copy, S: StoreName>(
     forest: &Forest<Rows<T, A, S>, A>,
 ) -> &Manifest<A, S>
-    ensures { result.now ≡ forest.now.sealed.tables }
+    ensures tables { result.now ≡ forest.now.sealed.tables }
+    ensures waits { Waits forest.now.fresh forest.now.sealed.tables forest.now.needed forest.now.waiting }
 {
     forest.rows().published.manifest()
 }

@@ -1,14 +1,12 @@
 //! Tests of the store by public calls alone: receipts, shares, versions, publishes, merges, pulses, limits, readers, and every
 //! request for memory refused in turn. A test is a text whose lines are run over a store and over the plain ledger, as
-//! `tf_trials` says, but for that of a thread that locks a store. There is no code here beside them.
+//! `tf_trials` says, by `tf_text_trials`, but for that of a thread that locks a store. There is no code here beside them.
 #![tactic(auto)]
 
 #[cfg(test)]
 mod limits;
 #[cfg(test)]
 mod merges;
-#[cfg(test)]
-mod opening;
 #[cfg(test)]
 mod readers;
 #[cfg(test)]
@@ -17,6 +15,8 @@ mod receipts;
 mod refusals;
 #[cfg(test)]
 mod soak;
+#[cfg(test)]
+mod texts;
 #[cfg(test)]
 mod threads;
 #[cfg(test)]

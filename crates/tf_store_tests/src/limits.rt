@@ -1,7 +1,7 @@
 //! Limits of tables and of batches.
 
-use crate::opening::{Fixture, try_text};
-use std::test::Fail;
+use crate::texts::assert_text;
+use tf_text_trials::Fixture;
 
 /// Accounts and a transfer of one with history need 18 tables: eight of accounts, nine of transfers and one of history. Under a
 /// limit of 17 they are never published, and the store goes on without.
@@ -38,13 +38,11 @@ run transfers 0; + id=5 debit_account_id=1 credit_account_id=2 amount=30 ledger=
 publish: 1 | count registered: 18 | count book: 3";
 
 #[test]
-fn a_publish_of_18_tables_is_refused_under_a_limit_of_17_alone(
-    rt: HostRuntime,
-) -> Result<(), Fail> {
-    try_text(&rt, Fixture::with_limit(17), FULL)?;
-    try_text(&rt, Fixture::with_limit(18), FITS)?;
-    try_text(&rt, Fixture::with_limit(17), HALF_FULL)?;
-    try_text(&rt, Fixture::with_limit(18), FITS_LAST)
+fn a_publish_of_18_tables_is_refused_under_a_limit_of_17_alone(rt: HostRuntime) {
+    assert_text(&rt, Fixture::with_limit(17), FULL);
+    assert_text(&rt, Fixture::with_limit(18), FITS);
+    assert_text(&rt, Fixture::with_limit(17), HALF_FULL);
+    assert_text(&rt, Fixture::with_limit(18), FITS_LAST);
 }
 
 /// Five publishes push as many tables as may be pushed. Then an install is refused, and changes nothing.
@@ -57,8 +55,8 @@ install: registry_full | same
 install: nothing";
 
 #[test]
-fn an_install_past_the_limit_is_refused(rt: HostRuntime) -> Result<(), Fail> {
-    try_text(&rt, Fixture::with_limit(18 + 4 * 11), FULL_INSTALL)
+fn an_install_past_the_limit_is_refused(rt: HostRuntime) {
+    assert_text(&rt, Fixture::with_limit(18 + 4 * 11), FULL_INSTALL);
 }
 
 /// Batches past their limits are refused on a heap that has no byte left, and change nothing. The greatest ones are stored, up to
@@ -86,10 +84,8 @@ count clock: 9223372036854775807
 publish: 7";
 
 #[test]
-fn batches_past_their_limits_are_refused_before_memory_is_taken(
-    rt: HostRuntime,
-) -> Result<(), Fail> {
-    try_text(&rt, Fixture::USUAL, BATCHES)
+fn batches_past_their_limits_are_refused_before_memory_is_taken(rt: HostRuntime) {
+    assert_text(&rt, Fixture::USUAL, BATCHES);
 }
 
 /// After 64 publishes each of eleven rows is full. From then on a publish merges a run in each of them before it pushes a table there.
@@ -101,8 +97,8 @@ repeat 65 69 transfers N 1 | publish: 1 | take | ask taken 0 now: 300 | let_take
 count registered: 799";
 
 #[test]
-fn a_publish_merges_a_run_of_each_full_row(rt: HostRuntime) -> Result<(), Fail> {
-    try_text(&rt, Fixture::USUAL, FULL_ROWS)
+fn a_publish_merges_a_run_of_each_full_row(rt: HostRuntime) {
+    assert_text(&rt, Fixture::USUAL, FULL_ROWS);
 }
 
 /// Two thousand transfers are published at once, in a table for each row.
@@ -113,6 +109,6 @@ count registered: 18
 take | ask taken 0 now: 1000";
 
 #[test]
-fn a_batch_of_two_thousand_is_published_at_once(rt: HostRuntime) -> Result<(), Fail> {
-    try_text(&rt, Fixture::with_room(1 << 24), MANY)
+fn a_batch_of_two_thousand_is_published_at_once(rt: HostRuntime) {
+    assert_text(&rt, Fixture::with_room(1 << 24), MANY);
 }

@@ -1,7 +1,7 @@
 //! Merges of each row, and installs that are refused.
 
-use crate::opening::{Fixture, try_text};
-use std::test::Fail;
+use crate::texts::assert_text;
+use tf_text_trials::Fixture;
 
 /// Eight rounds leave eight tables in each row, of which three merges of two make five. Each run is merged twice: one merge is
 /// installed, after which versions answer as before, and the other is stale, which changes nothing.
@@ -19,8 +19,8 @@ repeat 0 21 merge N: nothing
 install: nothing";
 
 #[test]
-fn each_row_is_merged_to_the_end_and_second_merges_are_stale(rt: HostRuntime) -> Result<(), Fail> {
-    try_text(&rt, Fixture::USUAL, MERGES)
+fn each_row_is_merged_to_the_end_and_second_merges_are_stale(rt: HostRuntime) {
+    assert_text(&rt, Fixture::USUAL, MERGES);
 }
 
 /// Registries make room for 32 tables at first, and for more at the 29th push, where there is memory for it: it leaves an eighth
@@ -37,8 +37,8 @@ install | count registered: 360
 install: nothing";
 
 #[test]
-fn an_install_that_was_refused_memory_hands_its_table_back(rt: HostRuntime) -> Result<(), Fail> {
-    try_text(&rt, Fixture::USUAL, HANDED_BACK)
+fn an_install_that_was_refused_memory_hands_its_table_back(rt: HostRuntime) {
+    assert_text(&rt, Fixture::USUAL, HANDED_BACK);
 }
 
 /// Readers go on to refer to tables that merges retired until they are shown the merged ones. Then those of 200 transfers come back,
@@ -51,8 +51,8 @@ note | show | freed: 80000 | same
 take | ask taken 0 now: 1000";
 
 #[test]
-fn what_merges_retired_comes_back_once_readers_are_shown_them(rt: HostRuntime) -> Result<(), Fail> {
-    try_text(&rt, Fixture::USUAL, SHOWN)
+fn what_merges_retired_comes_back_once_readers_are_shown_them(rt: HostRuntime) {
+    assert_text(&rt, Fixture::USUAL, SHOWN);
 }
 
 /// Jobs of one row that overlap. Ten publishes leave two tables of level 0 and four of level 1, of which a run is merged twice, and then
@@ -72,8 +72,8 @@ merge 9 | merge 9 | install | merge 9 | install | note | install: stale | same |
 take | ask taken 0 now: 100";
 
 #[test]
-fn jobs_that_overlap_are_installed_in_either_order(rt: HostRuntime) -> Result<(), Fail> {
-    try_text(&rt, Fixture::USUAL, CROSSED)
+fn jobs_that_overlap_are_installed_in_either_order(rt: HostRuntime) {
+    assert_text(&rt, Fixture::USUAL, CROSSED);
 }
 
 /// A row of 64 tables, whose run is merged twice by jobs, and once more by the publish that finds the row full. Both installs are
@@ -88,8 +88,8 @@ note | install: stale | install: stale | same | install: nothing
 take | ask taken 0 now: 300";
 
 #[test]
-fn jobs_that_a_publish_overtook_are_stale(rt: HostRuntime) -> Result<(), Fail> {
-    try_text(&rt, Fixture::USUAL, OVERTAKEN)
+fn jobs_that_a_publish_overtook_are_stale(rt: HostRuntime) {
+    assert_text(&rt, Fixture::USUAL, OVERTAKEN);
 }
 
 /// Four pending transfers, each published by itself. The run of their expiries is merged, and installed once two of them have expired
@@ -112,6 +112,6 @@ take | ask taken 0 now: 20
 run pulse 1000001006 10 | count book: 10";
 
 #[test]
-fn expiries_are_merged_beside_a_pulse_and_a_publish(rt: HostRuntime) -> Result<(), Fail> {
-    try_text(&rt, Fixture::USUAL, PICKED_BEFORE)
+fn expiries_are_merged_beside_a_pulse_and_a_publish(rt: HostRuntime) {
+    assert_text(&rt, Fixture::USUAL, PICKED_BEFORE);
 }

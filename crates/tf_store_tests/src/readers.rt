@@ -1,7 +1,7 @@
 //! Readers: each answers as the plain ledger does, whatever is stored, published and merged beside it.
 
-use crate::opening::{Fixture, try_text};
-use std::test::Fail;
+use crate::texts::assert_text;
+use tf_text_trials::Fixture;
 
 /// Accounts that weren't published yet are seen by no reader; once they are, the one that learned the receipt and the one that
 /// learned nothing see them. A version publishes too, but for receipts. A batch that stores nothing pushes no table.
@@ -20,8 +20,8 @@ count registered: 18
 repeat 0 2 give N | ask given 0 now: 10 | let_given | follow N | ask held N now: 10";
 
 #[test]
-fn two_readers_of_a_worked_example_see_what_was_published(rt: HostRuntime) -> Result<(), Fail> {
-    try_text(&rt, Fixture::with_readers(2), WORKED)
+fn two_readers_of_a_worked_example_see_what_was_published(rt: HostRuntime) {
+    assert_text(&rt, Fixture::with_readers(2), WORKED);
 }
 
 /// Rounds that are stored and published, and a compaction: the readers see none of a round before, and all of it then. The first
@@ -48,13 +48,13 @@ run compact
 repeat 0 M give N | ask given 0 then: 50 | let_given | follow N | ask held N then: 50";
 
 #[test]
-fn two_readers_answer_as_the_plain_ledger_does(rt: HostRuntime) -> Result<(), Fail> {
-    try_text(&rt, Fixture::with_readers(2), FOLLOW)
+fn two_readers_answer_as_the_plain_ledger_does(rt: HostRuntime) {
+    assert_text(&rt, Fixture::with_readers(2), FOLLOW);
 }
 
 #[test]
-fn all_of_64_readers_are_given_and_see_each_publish(rt: HostRuntime) -> Result<(), Fail> {
-    try_text(&rt, Fixture::with_readers(64), FOLLOW)
+fn all_of_64_readers_are_given_and_see_each_publish(rt: HostRuntime) {
+    assert_text(&rt, Fixture::with_readers(64), FOLLOW);
 }
 
 /// A reader keeps a version, and holds another, through five rounds and a compaction. Both stay what they were until it is given
@@ -71,10 +71,8 @@ ask given 0 then: 10 | ask given 1 now: 100 | ask held 0 now: 100
 give 0 | ask given 2 now: 100 | let_given";
 
 #[test]
-fn a_reader_keeps_its_version_whatever_is_published_and_merged(
-    rt: HostRuntime,
-) -> Result<(), Fail> {
-    try_text(&rt, Fixture::USUAL, KEEPS)
+fn a_reader_keeps_its_version_whatever_is_published_and_merged(rt: HostRuntime) {
+    assert_text(&rt, Fixture::USUAL, KEEPS);
 }
 
 /// A reader holds a version while rounds are published and merged, and after its store is dropped.
@@ -85,8 +83,8 @@ repeat 0 12 round N | publish: 2 | run compact | show
 ask held 0 then: 1000 | outlives held";
 
 #[test]
-fn a_version_that_a_reader_holds_outlives_its_store(rt: HostRuntime) -> Result<(), Fail> {
-    try_text(&rt, Fixture::USUAL, OUTLIVES)
+fn a_version_that_a_reader_holds_outlives_its_store(rt: HostRuntime) {
+    assert_text(&rt, Fixture::USUAL, OUTLIVES);
 }
 
 /// Of two readers one follows each publish, and the other holds its first version to the end. Once that one lets go, the tables
@@ -100,6 +98,6 @@ note | follow 0 | freed: 80000
 ask held 0 now: 1000";
 
 #[test]
-fn what_a_reader_alone_held_comes_back_once_it_lets_go(rt: HostRuntime) -> Result<(), Fail> {
-    try_text(&rt, Fixture::with_readers(2), LETS_GO)
+fn what_a_reader_alone_held_comes_back_once_it_lets_go(rt: HostRuntime) {
+    assert_text(&rt, Fixture::with_readers(2), LETS_GO);
 }

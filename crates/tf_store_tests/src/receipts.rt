@@ -1,7 +1,7 @@
 //! Shares, receipts and expiries.
 
-use crate::opening::{Fixture, try_text};
-use std::test::Fail;
+use crate::texts::assert_text;
+use tf_text_trials::Fixture;
 
 /// The first share stores five, and each other one a transfer.
 const SHARES: &str = "\
@@ -14,8 +14,8 @@ by 0 | count share: 5
 count book: 68 | count facts: 68 | count failed: 0";
 
 #[test]
-fn each_of_64_shares_counts_what_was_stored_with_it(rt: HostRuntime) -> Result<(), Fail> {
-    try_text(&rt, Fixture::USUAL, SHARES)
+fn each_of_64_shares_counts_what_was_stored_with_it(rt: HostRuntime) {
+    assert_text(&rt, Fixture::USUAL, SHARES);
 }
 
 /// Batches that two workers store in turn: some events fail, all of them, or there are none. The second transfer fails for a
@@ -48,8 +48,8 @@ publish: 1 | receipt 0 5001: none
 count share: 3 | by 1 | count share: 2";
 
 #[test]
-fn a_publish_hands_out_the_receipts_of_all_that_waited(rt: HostRuntime) -> Result<(), Fail> {
-    try_text(&rt, Fixture::USUAL, RECEIPTS)
+fn a_publish_hands_out_the_receipts_of_all_that_waited(rt: HostRuntime) {
+    assert_text(&rt, Fixture::USUAL, RECEIPTS);
 }
 
 /// Two accounts and four pending transfers, of which three have a timeout. The second worker expires two of them and then the
@@ -67,6 +67,6 @@ count book: 9 | count facts: 9 | count failed: 0
 publish: 0";
 
 #[test]
-fn expiries_count_in_a_share_and_leave_no_receipt(rt: HostRuntime) -> Result<(), Fail> {
-    try_text(&rt, Fixture::USUAL, EXPIRIES)
+fn expiries_count_in_a_share_and_leave_no_receipt(rt: HostRuntime) {
+    assert_text(&rt, Fixture::USUAL, EXPIRIES);
 }

@@ -1,18 +1,18 @@
 //! Requests for memory that are refused.
 
-use crate::opening::{Fixture, try_text};
-use std::test::Fail;
+use crate::texts::assert_text;
+use tf_text_trials::Fixture;
 
 /// Nothing, which a store without memory isn't there for.
 const UNOPENED: &str = "count shares: 0";
 
 #[test]
-fn a_store_is_not_opened_without_memory(rt: HostRuntime) -> Result<(), Fail> {
+fn a_store_is_not_opened_without_memory(rt: HostRuntime) {
     let fixture = Fixture {
         lacks_memory: true,
         ..Fixture::USUAL
     };
-    try_text(&rt, fixture, UNOPENED)
+    assert_text(&rt, fixture, UNOPENED);
 }
 
 /// On a heap that has no byte left, a publish hands out the receipts of batches that stored nothing, another one hands out none, a
@@ -24,8 +24,8 @@ fill 0 | publish: 2 | publish: 0 | take | give 0 | follow 0 | free
 ask taken 0 now: 10 | ask given 0 now: 10 | ask held 0 now: 10";
 
 #[test]
-fn a_publish_where_nothing_was_stored_takes_no_memory(rt: HostRuntime) -> Result<(), Fail> {
-    try_text(&rt, Fixture::USUAL, IDLE)
+fn a_publish_where_nothing_was_stored_takes_no_memory(rt: HostRuntime) {
+    assert_text(&rt, Fixture::USUAL, IDLE);
 }
 
 /// Four rounds of calls, each refused in turn: the room grows by 144 bytes from three starts, 48 apart, and that of a publish,
@@ -51,8 +51,8 @@ grow 720 0 3 | take | grow | ask taken 0 now: 10 | let_taken
 fill 0 | publish: 2 | free";
 
 #[test]
-fn a_store_that_was_refused_memory_is_as_before(rt: HostRuntime) -> Result<(), Fail> {
-    try_text(&rt, Fixture::USUAL, IN_TURN)
+fn a_store_that_was_refused_memory_is_as_before(rt: HostRuntime) {
+    assert_text(&rt, Fixture::USUAL, IN_TURN);
 }
 
 /// Calls with so many bytes left of the heap, whatever is refused.
@@ -64,9 +64,8 @@ fill M | round 1 2: any | free
 fill M | take: any | publish: any | free";
 
 #[test]
-fn a_store_that_is_dropped_after_refusals_frees_its_heap(rt: HostRuntime) -> Result<(), Fail> {
+fn a_store_that_is_dropped_after_refusals_frees_its_heap(rt: HostRuntime) {
     for room in 0..40 {
-        try_text(&rt, Fixture::with_parameter(room * 256), DROPPED)?;
+        assert_text(&rt, Fixture::with_parameter(room * 256), DROPPED);
     }
-    Ok(())
 }

@@ -1,7 +1,7 @@
 //! Versions: each shows the journal of its store when it was taken, whatever happens later.
 
-use crate::opening::{Fixture, try_text};
-use std::test::Fail;
+use crate::texts::assert_text;
+use tf_text_trials::Fixture;
 
 /// A version stays what it was through five rounds and a compaction. Receipts wait for a publish. Once readers are shown merged
 /// tables the version alone owns those that it has, which come back when it is let go.
@@ -16,8 +16,8 @@ take | ask taken 1 now: 100 | let_taken
 show | note | let_taken | freed: 44000 | let_taken: nothing";
 
 #[test]
-fn a_version_stays_whatever_happens_to_its_store(rt: HostRuntime) -> Result<(), Fail> {
-    try_text(&rt, Fixture::USUAL, STAYS)
+fn a_version_stays_whatever_happens_to_its_store(rt: HostRuntime) {
+    assert_text(&rt, Fixture::USUAL, STAYS);
 }
 
 /// The tables of a version stay while it lives, also where its store merged them and is dropped.
@@ -29,8 +29,8 @@ take | ask taken 1 now: 1000
 ask taken 0 then: 1000 | outlives taken";
 
 #[test]
-fn a_version_keeps_its_tables_and_outlives_its_store(rt: HostRuntime) -> Result<(), Fail> {
-    try_text(&rt, Fixture::USUAL, OUTLIVES)
+fn a_version_keeps_its_tables_and_outlives_its_store(rt: HostRuntime) {
+    assert_text(&rt, Fixture::USUAL, OUTLIVES);
 }
 
 /// Random commands, publishes and compactions among them.
@@ -40,11 +40,10 @@ take | ask taken 0 now: 10
 publish: any";
 
 #[test]
-fn a_store_answers_random_commands_as_the_plain_ledger_does(rt: HostRuntime) -> Result<(), Fail> {
+fn a_store_answers_random_commands_as_the_plain_ledger_does(rt: HostRuntime) {
     for seed in 0..60 {
-        try_text(&rt, Fixture::with_parameter(seed), RANDOM)?;
+        assert_text(&rt, Fixture::with_parameter(seed), RANDOM);
     }
-    Ok(())
 }
 
 /// A thousand transfers are published one by one, and all rows merged after each, in a heap of three times what is live at last:
@@ -58,8 +57,6 @@ take | ask taken 0 now: 1000
 give 0 | ask given 0 now: 1000 | let_given | follow 0 | ask held 0 now: 1000";
 
 #[test]
-fn memory_for_a_thousand_merged_publishes_is_that_of_what_is_kept(
-    rt: HostRuntime,
-) -> Result<(), Fail> {
-    try_text(&rt, Fixture::with_room(3 * 2_700_000), SUSTAINED)
+fn memory_for_a_thousand_merged_publishes_is_that_of_what_is_kept(rt: HostRuntime) {
+    assert_text(&rt, Fixture::with_room(3 * 2_700_000), SUSTAINED);
 }

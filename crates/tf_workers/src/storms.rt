@@ -170,7 +170,7 @@ where
             Ok((store, totals, done))
         }
         Err(fault) => {
-            drop(store);
+            store.close();
             Err(fault)
         }
     }

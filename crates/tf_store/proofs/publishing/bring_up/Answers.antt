@@ -24,7 +24,7 @@ pub returns-in_default-clause-publish : goal.returns-in_default-clause-publish
 returns-in_default-clause-publish g c =
     let old : View = c.args.forest.now in
     let none : old.waiting ≡ 0 = rw c.in_default.is at c.in_ok-prepared.ensures.none in
-    idle_publish old c.prepare.new.self None c.facts.ensures.waits (record { none = none; same = c.prepare.ensures.still none }) (c.facts_of_rows.ensures.alone none) c.in_ok-prepared.ensures.fits
+    idle_publish old c.prepare.new.self None c.sealed_tables.ensures.waits (record { none = none; same = c.prepare.ensures.still none }) (c.facts_of_rows.ensures.alone none) c.in_ok-prepared.ensures.fits
 
 pub returns-in_default-clause-all : goal.returns-in_default-clause-all
 returns-in_default-clause-all g c =
