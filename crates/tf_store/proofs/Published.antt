@@ -1,6 +1,6 @@
 -- A forest that was prepared, shown and settled is published; and one that was prepared alone is as it was.
 use mathlib.Core.List.{IsPrefix}
-use Rattle.std.proofs.Common.{◌≡◌, ◌≢◌, ◌∙◌, ◌+◌, ◌<◌, ◌≤◌, ℕ, cond, List, Option, Some, None, Result, Ok, Err, IfErr, IfNone, IfOk, OnErr, OnOk, inl, inr, refl, length, sym, ap, subst, arith}
+use Rattle.std.proofs.Common.{◌≡◌, ◌≢◌, ◌∙◌, ◌+◌, ◌<◌, ◌≤◌, ℕ, cond, List, [], ◌∷◌, Option, Some, None, Result, Ok, Err, IfErr, IfNone, IfOk, OnErr, OnOk, inl, inr, refl, length, sym, ap, subst, arith}
 use Rattle.std.specs.Prelude.{◌==◌, if◌then◌else◌, take}
 use Rattle.std.proofs.lemmas.Bool.{false≢true}
 use Rattle.std.proofs.lemmas.List.{length-take-le}
@@ -116,7 +116,7 @@ pub record IsPrepared (old mid : View) (p : Counted) : Type 0 where
   pub fits : old.sealed.tables.pushed.count + old.needed ≤ old.sealed.tables.pushed.limit
 
 module _ {X : Type 0} (old mid new : View) (p : Counted) (x : X) (is : IsPrepared old mid p)
-    (done : new ≡ record mid { sealed = settled p mid.sealed; fresh = nothing_fresh; needed = 0; waiting = 0 }) where
+    (done : new ≡ record mid { sealed = settled p mid.sealed; fresh = nothing_fresh; marks = nothing_fresh ∷ []; needed = 0; waiting = 0 }) where
   publishes_more : new.sealed.counts.publishes ≡ old.sealed.counts.publishes + (if old.needed == 0 then 0 else 1)
   publishes_more =
       let loses = is.lost.loses in

@@ -13,11 +13,11 @@ pulse_kept : (old new : forest.View) (now most : ℕ) (result : Result ℕ Refus
 pulse_kept old new now most (Ok count) run kept = run.kept
 pulse_kept old new now most (Err fault) run kept = run.unchanged.kept ∙ kept ∙ ap length (sym run.unchanged.journal)
 
-pub run_pulse-requires-clause-lawful : goal.run_pulse-requires-clause-lawful
-run_pulse-requires-clause-lawful g c = c.self.invariant.lawful
+pub run_pulse-count-requires-clause-lawful : goal.run_pulse-count-requires-clause-lawful
+run_pulse-count-requires-clause-lawful g c = c.self.invariant.lawful
 
-pub run_pulse-requires-clause-counted : goal.run_pulse-requires-clause-counted
-run_pulse-requires-clause-counted g c = c.self.invariant.counted
+pub run_pulse-count-requires-clause-counted : goal.run_pulse-count-requires-clause-counted
+run_pulse-count-requires-clause-counted g c = c.self.invariant.counted
 
 pub invariant_of-self : goal.invariant_of-self
 invariant_of-self g c =
