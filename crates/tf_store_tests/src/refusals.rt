@@ -55,6 +55,57 @@ fn a_store_that_was_refused_memory_is_as_before(rt: HostRuntime) {
     assert_text(&rt, Fixture::USUAL, IN_TURN);
 }
 
+/// A round of batches, each with `M` bytes at first and 144 more where it is refused. A heap gives 16 bytes at least, so that starts
+/// 16 bytes apart pass over no request.
+const EACH_OF_BATCHES: &str = "\
+accounts | publish: 1
+grow 144 M 3 | round 0 0 | round 0 1
+grow 144 M 0 | round 0 2 | grow
+publish: 2 | take | ask taken 0 now: 10";
+
+#[test]
+fn each_request_of_a_batch_is_refused_in_turn(rt: HostRuntime) {
+    for start in 0..9 {
+        assert_text(&rt, Fixture::with_parameter(start * 16), EACH_OF_BATCHES);
+    }
+}
+
+/// The same of a publish, with 720 bytes more.
+const EACH_OF_PUBLISHES: &str = "\
+ids 10
+accounts | publish: 1
+round 0 | grow 720 M 3 | publish: 2 | grow
+take | ask taken 0 now: 10";
+
+#[test]
+fn each_request_of_a_publish_is_refused_in_turn(rt: HostRuntime) {
+    for start in 0..45 {
+        assert_text(&rt, Fixture::with_parameter(start * 16), EACH_OF_PUBLISHES);
+    }
+}
+
+/// A run of each row is merged with `M` bytes, done or refused, which changes nothing; then it is merged with ample memory.
+const EACH_OF_MERGES: &str = "\
+ids 10
+accounts | round 0 | publish: 3
+repeat 1 4 round N | publish: 2
+repeat 0 21 note | fill M | merge N: any | free | same | merge N | install
+take | ask taken 0 now: 10";
+
+/// Runs of all rows are merged with 4 KB each, and none with no byte.
+const MERGED_IN_LITTLE: &str = "\
+accounts | round 0 | publish: 3
+repeat 1 4 round N | publish: 2
+repeat 0 21 fill 0 | merge N: no_memory | free | fill 4096 | merge N | free";
+
+#[test]
+fn each_request_of_a_merge_is_refused_in_turn(rt: HostRuntime) {
+    for size in 0..256 {
+        assert_text(&rt, Fixture::with_parameter(size * 16), EACH_OF_MERGES);
+    }
+    assert_text(&rt, Fixture::USUAL, MERGED_IN_LITTLE);
+}
+
 /// Calls with so many bytes left of the heap, whatever is refused.
 const DROPPED: &str = "\
 accounts | round 0 | publish: 3
