@@ -21,3 +21,4 @@ pub mod Summed
 pub mod Walking
 pub mod Versions
 pub mod Crossing
+pub mod Empty

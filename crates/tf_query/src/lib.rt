@@ -18,6 +18,7 @@ mod laws;
 mod leading;
 mod look_ups;
 mod passing;
+mod published;
 mod reads;
 mod residual;
 mod scans;
@@ -31,4 +32,5 @@ pub use laws::{
     rows_give_records, rows_index_records, scans_answer_filters, scans_list_matches,
     sums_date_history,
 };
+pub use published::{empty_manifests_show_nothing, version_of};
 pub use version::Version;

@@ -7,14 +7,12 @@
 
 mod asked;
 mod copies;
-mod pages;
 mod publishable;
 mod published;
 mod reader;
 
 pub use asked::{Asked, Found};
 pub use copies::{Copies, open, show};
-pub use pages::{empty_manifests_show_nothing, version_of};
 pub use publishable::{Publishable, Shows};
 pub use published::Published;
 pub use reader::Reader;

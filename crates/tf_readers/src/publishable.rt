@@ -3,20 +3,14 @@ ghost use Rattle.std.specs.Prelude.{◌≡◌, List, IfErr, IfOk, IsSomeAnd, OnO
 ghost use Rattle.tf_journal.specs.declared.entry.Entry.{Entry};
 ghost use Rattle.tf_readers.specs.Asked.{IsFound};
 
-use crate::asked::{Asked, Found, answered};
+use crate::asked::{Asked, Found};
 use std::alloc::{AllocError, Allocator};
-use tf_query::Version;
 use tf_records::Refusal;
-use tf_registry::Naming;
 
 /// A value that shows a journal.
 pub trait Shows {
     /// The journal that it shows.
     ghost journal: { Self → List Entry };
-}
-
-impl<A: Allocator, N: Naming> Shows for Version<A, N> {
-    ghost journal = { λ version. version };
 }
 
 /// A value that shows a journal, has as many owners as are asked for, and is asked what the journal has.
@@ -44,16 +38,5 @@ pub(crate) fn again<V: Publishable + Drop>(version: &V) -> Result<V, AllocError>
     match place {
         Some(copy) => Ok(copy),
         None => unreachable!(),
-    }
-}
-
-impl<A: Allocator, N: Naming> Publishable for Version<A, N> {
-    fn again_into(&self, place: &mut Option<Self>) -> Result<(), AllocError> {
-        *place = Some(self.again()?);
-        Ok(())
-    }
-
-    fn ask<B: Allocator + Copy>(&self, alloc: B, asked: &Asked) -> Result<Found<B>, Refusal> {
-        answered(alloc, self, asked)
     }
 }

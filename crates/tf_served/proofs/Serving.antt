@@ -160,17 +160,7 @@ read_of_take old new result bounded few limit (inr (is, idle)) = record {
   refused = subst (λ r. IfErr r (IsRefused old.sealed.counts.publishes)) (sym is) tt;
 }
 
--- whatever it gives, if it isn't refused
-pub read_as : {X Y : Type 0} (old new : View) (x : X) (y : Y) → IsRead old new (Ok x) → IsRead old new (Ok y)
-read_as old new x y read = record {
-  journal = read.journal;
-  clock = read.clock;
-  limit = read.limit;
-  publishes = read.publishes;
-  refused = tt;
-}
-
--- and left nothing waiting
+-- a publish that was done left nothing waiting
 pub none_waits : {X : Type 0} (old new : View) (result : Result X Refusal) → IsPublish old new result → OnOk result (new.waiting ≡ 0)
 none_waits old new (Ok x) published = published.all.1
 none_waits old new (Err r) published = tt

@@ -189,7 +189,7 @@ where
         Ok((store, shares, _readers)) => {
             let mut store = store;
             let ended = serve(rt, alloc, &mut store, shares, commands, out);
-            drop(store);
+            store.close();
             ended
         }
         Err(_) => Err(RunFault::NoMemory),

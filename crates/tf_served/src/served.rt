@@ -88,7 +88,7 @@ where
         ensures few { self.now.store.now.forest.needed ≤ 42 }
         ensures roomy { self.now.store.now.forest.sealed.tables.pushed.limit ≡ 1048576 }
     {
-        self.store.forest().facts();
+        self.needs_few();
         let _book = self.store.facts();
     }
 
@@ -101,17 +101,6 @@ where
         self.store.publish(self.rt)
     }
 
-    /// Publishes. Nobody asks for the receipts.
-    fn seal(&mut self) -> Result<(), Refusal>
-        ensures all { OnOk result (self.new.store.now.forest.waiting ≡ 0) }
-        ensures read { IsRead self.old.store.now.forest self.new.store.now.forest result }
-    {
-        match self.receipts() {
-            Ok(_receipts) => Ok(()),
-            Err(refusal) => Err(refusal),
-        }
-    }
-
     /// Publishes, and gives a version of the journal.
     fn version(&mut self) -> Result<Version<A, S>, Refusal>
         ensures version { IfOk result (λ version. version ≡ self.old.store.now.forest.journal) }
@@ -121,13 +110,13 @@ where
         self.store.take_version(self.rt)
     }
 
-    /// Seals what was stored since the last publish.
+    /// Seals what was stored since the last publish. Nobody asks for the receipts.
     pub(crate) fn publish(&mut self) -> Result<(), Refusal>
         ensures all { OnOk result (self.new.store.now.forest.waiting ≡ 0) }
         ensures served { Serves self.old.store.now.forest self.new.store.now.forest command.publish result }
     {
-        match self.seal() {
-            Ok(()) => Ok(()),
+        match self.receipts() {
+            Ok(_receipts) => Ok(()),
             Err(refusal) => Err(refusal),
         }
     }
@@ -237,6 +226,13 @@ where
     C: StoredCopies + Drop,
     W: Wait,
 {
+    /// How many tables a publish pushes at most. It does nothing.
+    fn needs_few(&self)
+        ensures { self.now.store.now.forest.needed ≤ 42 }
+    {
+        self.store.forest().facts();
+    }
+
     /// The moment after which the next timestamps are given out, 0 at first. It takes no memory.
     pub(crate) fn clock(&self) -> u64
         ensures { result ≡ self.now.store.now.forest.clock }

@@ -1,5 +1,5 @@
 //! What readers of a store enter.
-ghost use Rattle.std.specs.Prelude.{◌≡◌, OnErr, OnOk, IfErr};
+ghost use Rattle.std.specs.Prelude.{◌≡◌, true, is_some, OnErr, OnOk, IfErr, IfSome, IsSomeAnd};
 
 use std::alloc::Allocator;
 use std::sync::Wait;
@@ -23,8 +23,8 @@ pub trait VersionCopies<W: Shows, S: HistoryName>: StoredCopies {
     ///
     /// [`Refusal::NoMemory`] is the only refusal: nothing was shown then. Takes memory at the first publication alone, and
     /// makes one more owner of the version.
-    fn show(&mut self, version: W, front: &Front<S>) -> Result<(), Refusal>
-        requires { W.journal version ≡ front.now }
+    fn show(&mut self, version: &mut Option<W>, front: &Front<S>) -> Result<(), Refusal>
+        requires { IsSomeAnd version.old (λ version. W.journal version ≡ front.now) }
         ensures shown { OnOk result (Self.shown self.new ≡ front.now) }
         ensures refused { OnErr result (Self.shown self.new ≡ Self.shown self.old) }
         ensures refusal { IfErr result (λ refusal. refusal ≡ Refusal.NoMemory) };
@@ -42,14 +42,31 @@ impl<V: Publishable + Drop, A: Allocator, S: HistoryName, R: Wait + Drop> Stored
 /// Whoever opens a store names the type of its versions at one call, and lets all below it be generic in a
 /// `V: VersionOf<Version<A, S>> + Publishable + Drop`, whose copies are `Copies<V, A, S, R>`.
 pub trait VersionOf<W: Shows>: Shows {
-    /// The version itself. It takes no memory.
-    fn of(version: W) -> Self
-        ensures { Self.journal result ≡ W.journal version };
+    /// Moves the version itself to a place, from one that has it. It takes no memory.
+    ///
+    /// It takes places and no values, since whoever names a type for a trait has the whole layout of each value compared that a
+    /// call takes or gives by itself.
+    fn move_to(version: &mut Option<W>, place: &mut Option<Self>)
+        requires { is_some version.old ≡ true }
+        ensures { IsSomeAnd place.new (λ placed. IfSome version.old (λ version. Self.journal placed ≡ W.journal version)) };
+}
+
+/// The version itself, for code that is generic in it. It takes no memory.
+pub(crate) fn version_as<W: Shows + Drop, V: VersionOf<W> + Drop>(version: W) -> V
+    ensures { V.journal result ≡ W.journal version }
+{
+    let mut version = Some(version);
+    let mut place = None;
+    V::move_to(&mut version, &mut place);
+    match place {
+        Some(placed) => placed,
+        None => unreachable!(),
+    }
 }
 
 impl<V: Shows + Drop> VersionOf<V> for V {
-    fn of(version: V) -> V {
-        version
+    fn move_to(version: &mut Option<V>, place: &mut Option<V>) {
+        *place = version.take();
     }
 }
 
@@ -61,7 +78,12 @@ where
     S: HistoryName,
     R: Wait + Drop,
 {
-    fn show(&mut self, version: W, front: &Front<S>) -> Result<(), Refusal> {
-        show(self, Published::new(V::of(version), front))
+    fn show(&mut self, version: &mut Option<W>, front: &Front<S>) -> Result<(), Refusal> {
+        let mut place = None;
+        V::move_to(version, &mut place);
+        match place {
+            Some(version) => show(self, Published::new(version, front)),
+            None => unreachable!(),
+        }
     }
 }

@@ -8,6 +8,7 @@ ghost use Rattle.tf_rows.specs.Nest.{AreEmpty};
 ghost use Rattle.tf_publish.specs.Tables.{nothing_fresh};
 ghost use Rattle.tf_readers.specs.Reader.{HasSeen};
 
+use crate::copies::version_as;
 use crate::public::{Public, first_versions};
 use crate::queue::Queue;
 use crate::tally::Tally;
@@ -19,8 +20,8 @@ use tf_forest::Forest;
 use tf_history::Writer;
 use tf_manifest::Registries;
 use tf_publish::Rows;
-use tf_query::Version;
-use tf_readers::{Copies, Publishable, Published, Reader, empty_manifests_show_nothing, open};
+use tf_query::{Version, empty_manifests_show_nothing};
+use tf_readers::{Copies, Publishable, Published, Reader, open};
 use tf_records::Refusal;
 use tf_rows::{AllRows, EmptyRows};
 
@@ -59,7 +60,7 @@ fn begin<V, A, S>(
     shares: u32,
 ) -> Result<Begun<V, A, S>, Refusal>
 where
-    V: VersionOf<Version<A, S>>,
+    V: VersionOf<Version<A, S>> + Drop,
     A: Allocator + Copy,
     S: StoreName,
     requires some { 0 < shares }
@@ -77,7 +78,7 @@ where
     let writer = history.named::<S>();
     let shares = cut(alloc, whole, shares)?;
     let (first, again) = first_versions(alloc, registries, writer.front())?;
-    Ok(((book, writer), shares, (first, V::of(again))))
+    Ok(((book, writer), shares, (first, version_as(again))))
 }
 
 /// A new store, its shares, and its readers, which enter versions `V`.

@@ -13,8 +13,8 @@ use std::marker::Model;
 use tf_forest::Forest;
 use tf_history::{Front, Writer};
 use tf_manifest::{Manifest, Registries};
-use tf_query::Version;
-use tf_readers::{Shows, empty_manifests_show_nothing, version_of};
+use tf_query::{Version, empty_manifests_show_nothing, version_of};
+use tf_readers::Shows;
 use tf_records::Refusal;
 use tf_rows::AllRows;
 
@@ -167,7 +167,7 @@ where
         Ok(owners) => owners,
         Err(refusal) => return Err(refusal),
     };
-    match copies.show(version, front) {
+    match copies.show(&mut Some(version), front) {
         Ok(()) => {
             *latest = again;
             *shown = front.again();
@@ -270,10 +270,10 @@ where
         Ok(owners) => owners,
         Err(refusal) => return Err(refusal),
     };
-    match copies.show(first, shown) {
+    match copies.show(&mut Some(first), shown) {
         Ok(()) => {
             *latest = third;
-            copies.show(second, shown)
+            copies.show(&mut Some(second), shown)
         }
         Err(refusal) => {
             drop(second);

@@ -29,6 +29,18 @@ where
     store: StoreOf<T, C, Global, S>,
 }
 
+impl<T, C, S> Locked<T, C, S>
+where
+    T: MutableRows + Drop,
+    C: StoredCopies + Drop,
+    S: StoreName,
+{
+    /// Ends the store, once it is out of the lock.
+    fn end(self) {
+        self.store.close();
+    }
+}
+
 /// What a thread does with a store. It knows the store by this alone.
 trait Publishes {
     /// Locks it and publishes. Tells how many receipts there are, unless that was refused.
@@ -100,7 +112,7 @@ where
     let lock = Mutex::new(Locked { store });
     let receipts = publish_in_thread(rt, &Lent { rt, store: &lock });
     let is_seen = sees(alloc, &mut reader) == Some(true);
-    drop(lock);
+    lock.into_inner().end();
     is_stored && receipts == Some(1) && is_seen
 }
 
@@ -149,7 +161,7 @@ where
     match (shares.pop(), readers.pop()) {
         (Some(share), Some(reader)) => publish_beside(rt, alloc, store, share, reader),
         _ => {
-            drop(store);
+            store.close();
             false
         }
     }

@@ -219,7 +219,7 @@ where
     match ended {
         Ok((store, totals, done)) => {
             let totals = settled(&store, totals);
-            drop(store);
+            store.close();
             Ok((totals, done))
         }
         Err(StormFault::NoMemory) => Err(RunStormFault::Run(RunFault::NoMemory)),

@@ -44,7 +44,7 @@ where
     let mut store = store;
     let book = store.book();
     let are_shares = are_shares(&mut store, shares, book);
-    drop(store);
+    store.close();
     are_shares
 }
 

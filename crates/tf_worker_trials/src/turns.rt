@@ -236,7 +236,7 @@ where
     S: StoreName,
 {
     let book = store.book();
-    drop(store);
+    store.close();
     book
 }
 

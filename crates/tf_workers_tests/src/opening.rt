@@ -159,7 +159,7 @@ where
             match watched(alloc, readers, tasks.answers) {
                 Ok(readers) => with_readers(rt, alloc, store, shares, readers, tasks, trial, gate),
                 Err(_) => {
-                    drop(store);
+                    store.close();
                     Tried::Nothing
                 }
             }
@@ -215,7 +215,7 @@ fn are_counted(done: &Vec<Done, Global>, totals: Totals) -> bool {
 fn told<X: Drop, E: Drop>(ended: Result<(X, Totals, Vec<Done, Global>), E>) -> Tried {
     match ended {
         Ok((store, totals, done)) => {
-            drop(store);
+            store.close();
             if are_counted(&done, totals) {
                 Tried::Storm(totals)
             } else {
@@ -248,7 +248,7 @@ where
     let mut shares = shares;
     let mut readers = readers;
     let (Some(share), Some(reader)) = (shares.pop(), readers.pop()) else {
-        drop(store);
+        store.close();
         return Tried::Nothing;
     };
     match trial {
@@ -281,6 +281,6 @@ where
 {
     let (mut store, mut share, mut reader) = (store, share, reader);
     let is_learned = learn(rt, alloc, &mut store, &mut share, &mut reader.reader);
-    drop(store);
+    store.close();
     is_learned
 }

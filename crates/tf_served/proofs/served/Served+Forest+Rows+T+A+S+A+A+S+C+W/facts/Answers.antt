@@ -1,8 +1,7 @@
-use Rattle.tf_served.proofs.Needed.{forest_needs_few}
 use Rattle.tf_served.proofs.served.Served+Forest+Rows+T+A+S+A+A+S+C+W.facts.Goals as goal
 
 pub returns-clause-few : goal.returns-clause-few
-returns-clause-few g c = forest_needs_few c.forest.result.now c.args.self.now.store.now.forest c.forest.ensures.forest c.facts.ensures.waits
+returns-clause-few g c = c.needs_few.ensures
 
 pub returns-clause-bounded : goal.returns-clause-bounded
 returns-clause-bounded g c = c.facts-book.ensures.bounded

@@ -3,7 +3,7 @@ use Rattle.tf_journal.specs.declared.entry.Entry.{Entry}
 use Rattle.tf_journal.specs.Lawful.{IsLawful}
 use Rattle.tf_manifest.specs.View.{ShowsJournal, View}
 use Rattle.tf_query.specs.Version.{ShowsLawfulJournal, journal_shown}
-use Rattle.tf_readers.proofs.pages.version_of.Goals as goal
+use Rattle.tf_query.proofs.published.version_of.Goals as goal
 
 pub new-requires : goal.new-requires
 new-requires g c =
