@@ -1,76 +1,44 @@
-//! Whether a worked script writes what it should.
+//! What is to be said of a worked script or storm.
 ghost use Rattle.std.specs.Prelude.{◌≡◌, None};
 
-use crate::strewn::{strewn, without_reports};
-use crate::way::Way;
-use std::alloc::AllocError;
-use std::rt::Files;
-use std::sync::Wait;
-use std::{fmt, fs, io};
+use std::fmt;
 
-/// What is to be said of a worked script.
+/// Whether a worked script or storm writes what it should.
 #[derive(Clone, Copy)]
 pub enum Verdict {
-    /// It writes what it should, in each way that it is run.
+    /// All is as it should be.
     Right,
-    /// Run in this way it writes something else, from this byte on, counted from 1.
-    Differs { way: Way, byte: usize },
+    /// What this names is something else, from this byte on, counted from 1.
+    Differs { part: &'static str, byte: usize },
     /// One of its files can't be read.
     Unread,
+}
+
+impl Verdict {
+    /// The verdict of one part by itself: what was written of it, beside what should be.
+    pub fn of(part: &'static str, written: &[u8], wanted: &[u8]) -> Verdict
+        ensures { result ≡ Verdict.Right → written.now ≡ wanted.now }
+    {
+        match first_difference(written, wanted) {
+            None => Verdict::Right,
+            Some(byte) => Verdict::Differs { part, byte },
+        }
+    }
+
+    /// Whether all is as it should be.
+    pub fn is_right(self) -> bool {
+        matches!(self, Verdict::Right)
+    }
 }
 
 impl fmt::Display for Verdict {
     fn fmt<W: fmt::Write>(&self, f: &mut fmt::Formatter<W>) -> fmt::Result {
         match self {
             Verdict::Right => write!(f, "ok"),
-            Verdict::Differs { way, byte } => {
-                let over = way.name();
-                write!(f, "{over}: byte {byte} differs")
-            }
+            Verdict::Differs { part, byte } => write!(f, "{part}: byte {byte} differs"),
             Verdict::Unread => write!(f, "cannot be read"),
         }
     }
-}
-
-/// Runs the script of a name in each way, up to the first in which it doesn't write what it should.
-pub fn verdict_of<R: Files + AllocGlobal + Wait>(rt: &R, name: &str) -> io::Result<Verdict> {
-    let script_name = format!(in rt.alloc(); "{name}.script")?;
-    let answer_name = format!(in rt.alloc(); "{name}.out")?;
-    let Ok(script) = fs::read(rt, script_name.as_str()) else {
-        return Ok(Verdict::Unread);
-    };
-    let Ok(answer) = fs::read(rt, answer_name.as_str()) else {
-        return Ok(Verdict::Unread);
-    };
-    for way in Way::ALL {
-        if let Some(byte) = difference(rt, way, script.as_slice(), answer.as_slice())? {
-            return Ok(Verdict::Differs { way, byte });
-        }
-    }
-    Ok(Verdict::Right)
-}
-
-/// Where what a script writes, run in this way, differs from its answer.
-///
-/// A script with a fault is run as it stands alone: its answer tells a line by its number.
-fn difference<R: AllocGlobal + Wait>(
-    rt: &R,
-    way: Way,
-    script: &[u8],
-    answer: &[u8],
-) -> Result<Option<usize>, AllocError> {
-    let lines = way.strewn();
-    if lines.is_empty() {
-        let written = way.run(rt, script);
-        return Ok(first_difference(written.as_slice(), answer));
-    }
-    if answer.starts_with(b"bad line ") {
-        return Ok(None);
-    }
-    let written = way.run(rt, strewn(rt.alloc(), script, lines)?.as_slice());
-    let written = without_reports(rt.alloc(), written.as_slice())?;
-    let answer = without_reports(rt.alloc(), answer)?;
-    Ok(first_difference(written.as_slice(), answer.as_slice()))
 }
 
 /// The first byte, counted from 1, that two texts don't share.
