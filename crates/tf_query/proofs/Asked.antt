@@ -22,8 +22,8 @@ use Rattle.tf_scan.specs.Sets.{is_among}
 use Rattle.tf_query.specs.declared.condition.Condition.{Condition}
 use Rattle.tf_query.specs.declared.window.Window.{Window}
 use Rattle.tf_query.specs.Asked.{account_fields_at, account_filter_at, asks_no_field, meets_at, side_at, transfer_fields_at}
-use Rattle.tf_query.specs.Conditions.{account_conditions, asks_nothing, field_conditions, meets_all, transfer_conditions}
-use Rattle.tf_query.specs.Reads.{transfer_in}
+use Rattle.tf_query.specs.Conditions.{account_conditions, asks_nothing, field_conditions, fields_at, meets_all, transfer_conditions}
+use Rattle.tf_query.specs.Reads.{account_in, transfer_in}
 use Rattle.tf_query.specs.declared.residual.Residual.{Residual}
 use Rattle.tf_query.specs.Residual.{AreFirstPassing, first_passing}
 use Rattle.tf_query.specs.Windows.{AreFirst, AreOfFirst, first_within}
@@ -86,11 +86,6 @@ transfer-members view filter conditions left e some members t =
     let asks : asks_no_field filter ≡ false = sym (five (filter.user_data_128 == 0) (filter.user_data_64 == 0) (filter.user_data_32 == 0) (filter.ledger == 0) (filter.code == 0)) ∙ ap (list_all asks_nothing) (sym e) ∙ not-is _ some in
     members t ∙ ap (λ cs. meets_all view cs t) e ∙ chosen (asks_no_field filter) _ _ _ asks (five (meets_at view unit.TransferUserData128 filter.user_data_128 t) (meets_at view unit.TransferUserData64 filter.user_data_64 t) (meets_at view unit.TransferUserData32 filter.user_data_32 t) (meets_at view unit.TransferLedger filter.ledger t) (meets_at view unit.TransferCode filter.code t))
 
-pub account_fields-members : (view : View) (filter : QueryFilter) (conditions : List Condition) (left : List ℕ) → conditions ≡ account_conditions filter → true ≡ not (list_all asks_nothing conditions) → ((t : ℕ) → is_among t left ≡ meets_all view conditions t) → (t : ℕ) → is_among t left ≡ account_fields_at view filter t
-account_fields-members view filter conditions left e some members t =
-    let asks : asks_no_field filter ≡ false = sym (five (filter.user_data_128 == 0) (filter.user_data_64 == 0) (filter.user_data_32 == 0) (filter.ledger == 0) (filter.code == 0)) ∙ ap (list_all asks_nothing) (sym e) ∙ not-is _ some in
-    members t ∙ ap (λ cs. meets_all view cs t) e ∙ chosen (asks_no_field filter) _ _ _ asks (five (meets_at view unit.AccountUserData128 filter.user_data_128 t) (meets_at view unit.AccountUserData64 filter.user_data_64 t) (meets_at view unit.AccountUserData32 filter.user_data_32 t) (meets_at view unit.AccountLedger filter.ledger t) (meets_at view unit.AccountCode filter.code t))
-
 -- a record is found where its row has something
 found-in : {X Y : Type 0} (f : X → Y) (o : Option X) → is_some o ≡ is_some (option_map f o)
 found-in f None = refl
@@ -114,13 +109,32 @@ each-found view filter conditions e none t =
     let asks : asks_no_field filter ≡ true = sym (five (filter.user_data_128 == 0) (filter.user_data_64 == 0) (filter.user_data_32 == 0) (filter.ledger == 0) (filter.code == 0)) ∙ ap (list_all asks_nothing) (sym e) ∙ not-was _ none in
     picked (asks_no_field filter) _ _ _ asks refl
 
-pub each-transfer : (view : View) (filter : QueryFilter) (conditions : List Condition) (rows : List (Shown (Stored Transfer))) → conditions ≡ transfer_conditions filter → false ≡ not (list_all asks_nothing conditions) → rows ≡ tables_by view kind.Transfer → (t : ℕ) → is_some (content_at (key_of 0 t) rows) ≡ transfer_fields_at view filter t
-each-transfer view filter conditions rows e none same t = transfers-in view rows same t ∙ each-found view filter conditions e none t
+-- where conditions ask for something, what is left meets them, and where they ask for nothing each record does
+pub some-met : {V : Type 0} (view : View) (objects : List (Shown V)) (conditions : List Condition) (left : List ℕ) → true ≡ not (list_all asks_nothing conditions) → ((t : ℕ) → is_among t left ≡ meets_all view conditions t) → (t : ℕ) → is_among t left ≡ fields_at view objects conditions t
+some-met view objects conditions left some members t = chosen (list_all asks_nothing conditions) _ _ _ (not-is _ some) (members t)
 
-pub each-account : (view : View) (filter : QueryFilter) (conditions : List Condition) (rows : List (Shown (Stored Account))) → conditions ≡ account_conditions filter → false ≡ not (list_all asks_nothing conditions) → rows ≡ tables_by view kind.Account → (t : ℕ) → is_some (content_at (key_of 0 t) rows) ≡ account_fields_at view filter t
-each-account view filter conditions rows e none same t =
-    let asks : asks_no_field filter ≡ true = sym (five (filter.user_data_128 == 0) (filter.user_data_64 == 0) (filter.user_data_32 == 0) (filter.ledger == 0) (filter.code == 0)) ∙ ap (list_all asks_nothing) (sym e) ∙ not-was _ none in
-    picked (asks_no_field filter) _ _ _ asks (ap (λ ts. is_some (content_at (key_of 0 t) ts)) same ∙ found-in (λ (s : Stored Account). s.record) (content_at (key_of 0 t) (tables_by view kind.Account)))
+pub all-found : {V : Type 0} (view : View) (objects : List (Shown V)) (conditions : List Condition) → false ≡ not (list_all asks_nothing conditions) → (t : ℕ) → is_some (content_at (key_of 0 t) objects) ≡ fields_at view objects conditions t
+all-found view objects conditions none t = picked (list_all asks_nothing conditions) _ _ _ (not-was _ none) refl
+
+if-alike : (a b x y u v : Bool) → a ≡ b → x ≡ y → u ≡ v → (if a then x else u) ≡ (if b then y else v)
+if-alike a b x y u v e f h = ap (λ c. if c then x else u) e ∙ ap (λ z. if b then z else u) f ∙ ap (λ z. if b then y else z) h
+
+-- what the conditions of a filter of all transfers are met by, and of a filter of accounts
+pub transfer-fields : (view : View) (filter : QueryFilter) (conditions : List Condition) (rows : List (Shown (Stored Transfer))) → conditions ≡ transfer_conditions filter → rows ≡ tables_by view kind.Transfer → (t : ℕ) → fields_at view rows conditions t ≡ transfer_fields_at view filter t
+transfer-fields view filter conditions rows e same t =
+    ap (λ cs. fields_at view rows cs t) e
+    ∙ if-alike (list_all asks_nothing (transfer_conditions filter)) (asks_no_field filter) (is_some (content_at (key_of 0 t) rows)) (is_some (transfer_in view t)) (meets_all view (transfer_conditions filter) t) _
+    (five (filter.user_data_128 == 0) (filter.user_data_64 == 0) (filter.user_data_32 == 0) (filter.ledger == 0) (filter.code == 0))
+    (transfers-in view rows same t)
+    (five (meets_at view unit.TransferUserData128 filter.user_data_128 t) (meets_at view unit.TransferUserData64 filter.user_data_64 t) (meets_at view unit.TransferUserData32 filter.user_data_32 t) (meets_at view unit.TransferLedger filter.ledger t) (meets_at view unit.TransferCode filter.code t))
+
+pub account-fields : (view : View) (filter : QueryFilter) (conditions : List Condition) (rows : List (Shown (Stored Account))) → conditions ≡ account_conditions filter → rows ≡ tables_by view kind.Account → (t : ℕ) → fields_at view rows conditions t ≡ account_fields_at view filter t
+account-fields view filter conditions rows e same t =
+    ap (λ cs. fields_at view rows cs t) e
+    ∙ if-alike (list_all asks_nothing (account_conditions filter)) (asks_no_field filter) (is_some (content_at (key_of 0 t) rows)) (is_some (account_in view t)) (meets_all view (account_conditions filter) t) _
+    (five (filter.user_data_128 == 0) (filter.user_data_64 == 0) (filter.user_data_32 == 0) (filter.ledger == 0) (filter.code == 0))
+    (ap (λ ts. is_some (content_at (key_of 0 t) ts)) same ∙ found-in (λ (s : Stored Account). s.record) (content_at (key_of 0 t) (tables_by view kind.Account)))
+    (five (meets_at view unit.AccountUserData128 filter.user_data_128 t) (meets_at view unit.AccountUserData64 filter.user_data_64 t) (meets_at view unit.AccountUserData32 filter.user_data_32 t) (meets_at view unit.AccountLedger filter.ledger t) (meets_at view unit.AccountCode filter.code t))
 
 -- two readings that give the same at each element
 pub filter_map-alike : {X Y : Type 0} (f h : X → Option Y) (xs : List X) → ((x : X) → f x ≡ h x) → filter_map f xs ≡ filter_map h xs
@@ -138,6 +152,11 @@ no-history f b rows e = rw e refl
 pub nothing-of-history : {X Y : Type 0} (f : X → Y) (b : Bool) (rows : List X) → [] ≡ rows → [] ≡ (if b then map f rows else [])
 nothing-of-history f true rows e = ap (map f) e
 nothing-of-history f false rows e = refl
+
+-- what holds of a value that there is, by what is known of it
+pub ok-map : {T E : Type 0} (r : Result T E) (P Q : T → Type 0) → IfOk r P → ((x : T) → P x → Q x) → IfOk r Q
+ok-map (Ok x) P Q p k = k x p
+ok-map (Err e) P Q p k = tt
 
 -- what was read off a scan in a window
 pub first-read : {T E : Type 0} (r : Result T E) (items : T → List ℕ) (w shown : Window) (d : Direction) (accepts : ℕ → Bool) (left : List ℕ) → shown ≡ w → d ≡ w.direction → IfOk r (λ v. items v ≡ first_within shown left) → IfOk r (λ v. IsInOrder d left) → ((t : ℕ) → is_among t left ≡ accepts t) → IfOk r (λ v. AreFirst w accepts (items v))

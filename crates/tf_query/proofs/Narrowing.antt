@@ -1,6 +1,6 @@
 -- Conditions that are met one after another.
-use Rattle.std.proofs.Common.{◌≡◌, ◌∙◌, sym, refl, ap, ℕ, ◌+◌, ◌<◌, Bool, true, false, not, ◌&&◌, ◌||◌, List, take, length, get_or}
-use Rattle.std.specs.Prelude.{nat_eq, Result, Ok, Err, IfOk}
+use Rattle.std.proofs.Common.{◌≡◌, ◌∙◌, sym, refl, ap, subst, ℕ, ◌+◌, ◌<◌, Bool, true, false, not, ◌&&◌, ◌||◌, List, Option, Some, take, length, get_or}
+use Rattle.std.specs.Prelude.{nat_eq, Result, Ok, Err, IfErr, IfOk}
 use Rattle.std.specs.Result.{IsOkAnd}
 use Rattle.std.specs.List.{list_all}
 use Rattle.std.proofs.lemmas.Bool.{ne_eqb}
@@ -14,6 +14,16 @@ ok-both (Err e) P Q p q k = absurd p
 and-true : (b : Bool) → (b && true) ≡ b
 and-true true = refl
 and-true false = refl
+
+-- what holds of what there is, where it is given on
+pub given-ok : {T E : Type 0} (found : Result (Option T) E) (given : Result T E) (P : Option T → Type 0) (Q : T → Type 0) → IfOk given (λ x. found ≡ Ok (Some x)) → IfOk found P → ((x : T) → P (Some x) → Q x) → IfOk given Q
+given-ok found (Ok x) P Q is p k = k x (subst (λ r. IfOk r P) is p)
+given-ok found (Err e) P Q is p k = tt
+
+-- and of a refusal
+pub given-err : {T E : Type 0} (found : Result (Option T) E) (given : Result T E) (P : E → Type 0) → IfErr given (λ e. found ≡ Err e) → IfErr found P → IfErr given P
+given-err found (Ok x) P is p = tt
+given-err found (Err e) P is p = subst (λ r. IfErr r P) is p
 
 -- where 0 is asked for, all is left
 pub unasked : (v : ℕ) (b h : Bool) → v ≡ 0 → b ≡ (b && (nat_eq v 0 || h))

@@ -1,11 +1,14 @@
 -- What filters ask of indexes, and whether a timestamp meets it.
-use Rattle.std.specs.Prelude.{ℕ, ◌==◌, Bool, true, List, [], ◌∷◌, Option, Some, None}
+use Rattle.std.specs.Prelude.{ℕ, ◌==◌, Bool, true, List, [], ◌∷◌, Option, Some, None, is_some, if◌then◌else◌}
 use Rattle.std.specs.List.{list_all}
 use Rattle.tf_manifest.specs.declared.kind.UnitRow.{UnitRow}
 use Rattle.tf_manifest.specs.declared.kind.UnitRow.TheVariants as unit
+use Rattle.tf_manifest.specs.Rows.{key_of}
 use Rattle.tf_manifest.specs.View.{View}
 use Rattle.tf_records.specs.declared.account_filter.AccountFilter.{AccountFilter}
 use Rattle.tf_records.specs.declared.query_filter.QueryFilter.{QueryFilter}
+use Rattle.tf_registry.specs.Row.{content_at}
+use Rattle.tf_registry.specs.Table.{Shown}
 use Rattle.tf_scan.specs.Sequence.{Sequence}
 use Rattle.tf_scan.specs.Sets.{is_among}
 use Rattle.tf_query.specs.declared.condition.Condition.{Condition}
@@ -21,6 +24,10 @@ asks_nothing condition = condition.value == 0
 -- whether a timestamp meets each condition
 abbrev pub meets_all : View → List Condition → ℕ → Bool
 meets_all view conditions t = list_all (λ c. meets_at view c.row c.value t) conditions
+
+-- whether the record with a timestamp meets conditions; where they ask for nothing, whether the row of its kind has it
+abbrev pub fields_at : {V : Type 0} → View → List (Shown V) → List Condition → ℕ → Bool
+fields_at view objects conditions t = if list_all asks_nothing conditions then is_some (content_at (key_of 0 t) objects) else meets_all view conditions t
 
 -- whether a timestamp is left in a scan. Where there is no scan, all are
 abbrev pub is_left : ℕ → Option Sequence → Bool

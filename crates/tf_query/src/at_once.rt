@@ -5,6 +5,7 @@ ghost use Rattle.tf_table.specs.Content.{entry_at, entry_of};
 ghost use Rattle.tf_registry.specs.Row.{lists_of};
 ghost use Rattle.tf_manifest.specs.Rows.{key_of};
 
+use crate::finder::table_at;
 use crate::reads::{AHEAD, key_of};
 use std::alloc::Allocator;
 use tf_manifest::RowValue;
@@ -43,7 +44,7 @@ fn probe<'r, V: RowValue, A: Allocator, N: Naming>(
     key: &Key,
 ) -> (usize, Probe<'r>) {
     for place in 0..references.len() {
-        let table = references[place].table().table();
+        let table = table_at(references, place);
         if table.may_have(key) {
             return (place, table.probe(key));
         }
@@ -115,7 +116,7 @@ fn entry_in<'r, V: RowValue, A: Allocator, N: Naming>(
     ensures { option_copied result ≡ entry_of key.now (lists_of references.now) }
 {
     for place in 0..references.len() {
-        let table = references[place].table().table();
+        let table = table_at(references, place);
         if let Some(entry) = entry_at(table, key, guess.row_in(place)) {
             return Some(entry);
         }
@@ -148,7 +149,10 @@ fn entry_at_stamp<'r, V: RowValue, A: Allocator, N: Naming>(
 ) -> Option<&'r Option<V>>
     ensures { option_copied result ≡ option_and_then (λ t. entry_of (key_of 0 t) (lists_of references.now)) stamp }
 {
-    entry_in(references, &key_of(0, stamp?), Guess::NONE)
+    match stamp {
+        Some(timestamp) => entry_in(references, &key_of(0, timestamp), Guess::NONE),
+        None => None,
+    }
 }
 
 /// The entries at these timestamps, each in the place of its timestamp, as they are stored. No entry is read.

@@ -5,13 +5,13 @@ ghost use Rattle.tf_registry.specs.Row.{content_at};
 ghost use Rattle.tf_manifest.specs.Rows.{key_of};
 ghost use Rattle.tf_query.specs.Reads.{balance_by, balance_in, stored_record};
 
+use crate::reads::{key_of, record_of};
 use crate::walk::Walk;
 use std::alloc::Allocator;
 use tf_manifest::{Manifest, Stored};
 use tf_records::{AccountBalance, Refusal, Sums};
 use tf_registry::Naming;
 use tf_scan::Direction;
-use tf_table::Key;
 
 /// The sums of an account right after the transfer with this timestamp, where their table has them, by what looked for those
 /// before them.
@@ -23,12 +23,7 @@ fn found_sums<'r, A: Allocator, N: Naming>(
     ensures found { option_copied result ≡ stored_record (content_at (key_of account_id timestamp) sums.old) }
     ensures same { sums.new ≡ sums.old }
 {
-    let key = Key {
-        value: account_id,
-        timestamp,
-    };
-    let stored = sums.find(&key)?;
-    Some(&stored.record)
+    record_of(sums.find(&key_of(account_id, timestamp)))
 }
 
 /// The balance of an account that has these sums right after the transfer with this timestamp.
@@ -79,7 +74,9 @@ pub fn balances_at<A: Allocator, N: Naming, B: Allocator>(
     ensures room { IfOk result (λ rows. vec_capacity rows ≡ length timestamps.now) }
     ensures refusal { IfErr result (λ refusal. refusal ≡ Refusal.NoMemory) }
 {
-    let mut rows = Vec::with_capacity(alloc, timestamps.len())?;
+    let Ok(mut rows) = Vec::with_capacity(alloc, timestamps.len()) else {
+        return Err(Refusal::NoMemory);
+    };
     let mut sums = Walk::new(manifest.sums.row(0), direction, expected);
     for timestamp in timestamps {
         let found = found_sums(&mut sums, account_id, *timestamp);

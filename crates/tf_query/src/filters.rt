@@ -8,11 +8,12 @@ ghost use Rattle.tf_registry.specs.Row.{content_at};
 ghost use Rattle.tf_manifest.specs.Rows.{key_of};
 ghost use Rattle.tf_manifest.specs.View.{ShowsJournal};
 ghost use Rattle.tf_query.specs.Asked.{account_fields_at, account_filter_at, transfer_fields_at};
+ghost use Rattle.tf_query.specs.Conditions.{fields_at};
 ghost use Rattle.tf_query.specs.Reads.{transfer_in};
 ghost use Rattle.tf_query.specs.Residual.{AreFirstPassing, account_lead, account_residual, query_lead, query_residual};
 ghost use Rattle.tf_query.specs.Windows.{AreFirst, AreOfFirst, account_window, query_window};
 
-use crate::condition::{account_conditions, transfer_conditions};
+use crate::condition::{Condition, account_conditions, transfer_conditions};
 use crate::laws::leads_answer_filters;
 use crate::leading::{tested_of_account_filter, tested_of_query_filter};
 use crate::passing::passing_within;
@@ -20,7 +21,7 @@ use crate::reads::{accounts_at, transfers_at};
 use crate::residual::{Residual, Tested, account_lead, query_lead};
 use crate::scans::{account_scan, narrowed, object_scan};
 use crate::scans_answer_filters;
-use crate::timestamps::{few_within, timestamps_within};
+use crate::timestamps::{few_within, timestamps_unless_refused, timestamps_within};
 use crate::window::{FEW, Window};
 use std::alloc::Allocator;
 use tf_journal::{is_valid_account_filter, is_valid_query_filter};
@@ -39,10 +40,8 @@ pub fn account_timestamps<A: Allocator, N: Naming, B: Allocator + Copy>(
     ensures refusal { IfErr result (λ refusal. refusal ≡ Refusal.NoMemory) }
 {
     let window = Window::of_account_filter(filter);
-    match account_scan(alloc, manifest, &window, filter) {
-        Ok(scan) => timestamps_within(alloc, scan, &window),
-        Err(refusal) => Err(refusal),
-    }
+    let scan = account_scan(alloc, manifest, &window, filter);
+    timestamps_unless_refused(alloc, scan, &window)
 }
 
 /// The first timestamps in a window of all records of a kind, by the row that has them.
@@ -54,8 +53,25 @@ fn object_timestamps<V: RowValue, A: Allocator, N: Naming, B: Allocator + Copy>(
     ensures ok { IfOk result (λ timestamps. AreFirst window.now (λ t. is_some (content_at (key_of 0 t) objects.now)) timestamps.items) }
     ensures refusal { IfErr result (λ refusal. refusal ≡ Refusal.NoMemory) }
 {
-    match object_scan(alloc, objects, window.direction) {
-        Ok(scan) => timestamps_within(alloc, scan, window),
+    let scan = object_scan(alloc, objects, window.direction);
+    timestamps_unless_refused(alloc, scan, window)
+}
+
+/// The first timestamps in a window of the records of a kind that meet conditions; of all of them, by the row that has them, where
+/// nothing is asked for.
+fn field_timestamps<V: RowValue, A: Allocator, N: Naming, B: Allocator + Copy>(
+    alloc: B,
+    manifest: &Manifest<A, N>,
+    objects: &Tables<V, A, N>,
+    window: &Window,
+    conditions: &[Condition],
+) -> Result<Vec<u64, B>, Refusal>
+    ensures ok { IfOk result (λ timestamps. AreFirst window.now (fields_at manifest.now objects.now conditions.now) timestamps.items) }
+    ensures refusal { IfErr result (λ refusal. refusal ≡ Refusal.NoMemory) }
+{
+    match narrowed(alloc, manifest, window, None, conditions) {
+        Ok(Some(scan)) => timestamps_within(alloc, scan, window),
+        Ok(None) => object_timestamps(alloc, objects, window),
         Err(refusal) => Err(refusal),
     }
 }
@@ -70,11 +86,14 @@ fn transfer_timestamps<A: Allocator, N: Naming, B: Allocator + Copy>(
     ensures refusal { IfErr result (λ refusal. refusal ≡ Refusal.NoMemory) }
 {
     let window = Window::of_query_filter(filter);
-    match narrowed(alloc, manifest, &window, None, &transfer_conditions(filter)) {
-        Ok(Some(scan)) => timestamps_within(alloc, scan, &window),
-        Ok(None) => object_timestamps(alloc, manifest.transfers.row(0), &window),
-        Err(refusal) => Err(refusal),
-    }
+    let transfers = manifest.transfers.row(0);
+    field_timestamps(
+        alloc,
+        manifest,
+        transfers,
+        &window,
+        &transfer_conditions(filter),
+    )
 }
 
 /// The timestamps of the accounts that a valid filter asks for, in its direction.
@@ -87,11 +106,14 @@ fn found_account_timestamps<A: Allocator, N: Naming, B: Allocator + Copy>(
     ensures refusal { IfErr result (λ refusal. refusal ≡ Refusal.NoMemory) }
 {
     let window = Window::of_query_filter(filter);
-    match narrowed(alloc, manifest, &window, None, &account_conditions(filter)) {
-        Ok(Some(scan)) => timestamps_within(alloc, scan, &window),
-        Ok(None) => object_timestamps(alloc, manifest.accounts.row(0), &window),
-        Err(refusal) => Err(refusal),
-    }
+    let accounts = manifest.accounts.row(0);
+    field_timestamps(
+        alloc,
+        manifest,
+        accounts,
+        &window,
+        &account_conditions(filter),
+    )
 }
 
 /// The transfers that a valid filter of an account's transfers asks for, each of which was tested for what is left to be. It
@@ -232,10 +254,14 @@ fn few_account_transfers<A: Allocator, N: Naming, B: Allocator + Copy>(
     ensures refusal { IfErr result (λ refusal. refusal ≡ Refusal.NoMemory) }
 {
     let window = Window::of_account_filter(filter);
-    let scan = account_scan(alloc, manifest, &window, filter)?;
-    let mut part = [0; FEW as usize];
-    let count = few_within(scan, &window, &mut part);
-    transfers_at(alloc, manifest, &part[..count])
+    match account_scan(alloc, manifest, &window, filter) {
+        Ok(scan) => {
+            let mut part = [0; FEW as usize];
+            let count = few_within(scan, &window, &mut part);
+            transfers_at(alloc, manifest, &part[..count])
+        }
+        Err(refusal) => Err(refusal),
+    }
 }
 
 /// The transfers that a filter asks for, in any journal that the manifest shows.

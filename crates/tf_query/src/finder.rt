@@ -1,5 +1,5 @@
 //! Look-ups of many records in the tables of their row, one after another.
-ghost use Rattle.std.specs.Prelude.{◌≡◌, ℕ, IfSome, IsTrue, MatchOption, None, Some};
+ghost use Rattle.std.specs.Prelude.{◌≡◌, ℕ, ◌<◌, IfSome, IsTrue, MatchOption, None, Some, length, slice_get};
 ghost use Rattle.std.specs.Option.{option_copied, option_map};
 ghost use Rattle.tf_table.specs.Content.{entry_at, entry_of};
 ghost use Rattle.tf_registry.specs.Row.{content_at, lists_of};
@@ -129,8 +129,10 @@ impl<'r, V: RowValue, A: Allocator, N: Naming> Finder<'r, V, A, N> {
         if timestamp < self.from || !self.part.has(timestamp) {
             return None;
         }
-        let entry = self.entries.get((timestamp - self.from) as usize)?;
-        Some(entry.as_ref())
+        match self.entries.get((timestamp - self.from) as usize) {
+            Some(entry) => Some(entry.as_ref()),
+            None => None,
+        }
     }
 
     /// The same as `find`, by the last table, and then by all of them.
@@ -141,8 +143,7 @@ impl<'r, V: RowValue, A: Allocator, N: Naming> Finder<'r, V, A, N> {
     {
         let key = key_of(0, timestamp);
         if self.part.has(timestamp) && self.place < self.references.len() {
-            let found = self.references[self.place].table().table().find(&key);
-            if let Some(entry) = found {
+            if let Some(entry) = table_at(self.references, self.place).find(&key) {
                 return entry;
             }
         }
@@ -154,7 +155,9 @@ impl<'r, V: RowValue, A: Allocator, N: Naming> Finder<'r, V, A, N> {
         ensures found { option_copied result ≡ content_at key.now self.old }
         ensures same { self.new ≡ self.old }
     {
-        let (place, part, entry) = newest(self.references, key, &[])?;
+        let Some((place, part, entry)) = newest(self.references, key, &[]) else {
+            return None;
+        };
         let (from, entries) = dated_entries(self.references, place);
         self.place = place;
         self.part = part;
@@ -164,18 +167,28 @@ impl<'r, V: RowValue, A: Allocator, N: Naming> Finder<'r, V, A, N> {
     }
 }
 
+/// The table at a place among those of its row.
+#[inline]
+pub fn table_at<'r, V: RowValue, A: Allocator, N: Naming>(
+    references: &'r [TableRef<V, A, N>],
+    place: usize,
+) -> &'r Sealed<V, A>
+    requires { place < length references.now }
+    ensures { slice_get (lists_of references.now) place ≡ Some result.now }
+{
+    references[place].table().table()
+}
+
 /// Entries of the table at a place, at one timestamp after another, and the first timestamp. There are none where the table
 /// doesn't have them side by side.
 fn dated_entries<'r, V: RowValue, A: Allocator, N: Naming>(
     references: &'r [TableRef<V, A, N>],
     place: usize,
 ) -> (u64, &'r [Option<V>])
+    requires { place < length references.now }
     ensures { IsDatedAt place result.0 result.1.now (lists_of references.now) }
 {
-    if place >= references.len() {
-        return (0, &[]);
-    }
-    match references[place].table().table().dated_entries() {
+    match table_at(references, place).dated_entries() {
         Some(found) => found,
         None => (0, &[]),
     }
@@ -197,8 +210,10 @@ fn find_in<'r, V: RowValue, A: Allocator>(
     if expected == ANYWHERE {
         return table.find(key);
     }
-    let entry = table.entry_near(key, expected)?;
-    Some(entry.as_ref())
+    match table.entry_near(key, expected) {
+        Some(entry) => Some(entry.as_ref()),
+        None => None,
+    }
 }
 
 /// The place of the newest table that has a key, the part of time around the key in which no newer one has anything, and the
@@ -208,11 +223,12 @@ pub fn newest<'r, V: RowValue, A: Allocator, N: Naming>(
     key: &Key,
     expected: &[usize],
 ) -> Option<(usize, Part, Option<&'r V>)>
-    ensures { MatchOption result (entry_of key.now (lists_of references.now) ≡ None) (λ found. IsNewest key.now (lists_of references.now) found.0 found.1 (option_copied found.2)) }
+    ensures within { IfSome result (λ found. found.0 < length references.now) }
+    ensures newest { MatchOption result (entry_of key.now (lists_of references.now) ≡ None) (λ found. IsNewest key.now (lists_of references.now) found.0 found.1 (option_copied found.2)) }
 {
     let mut part = Part::all();
     for place in 0..references.len() {
-        let table = references[place].table().table();
+        let table = table_at(references, place);
         if let Some(entry) = find_in(table, key, expected_in(expected, place)) {
             return Some((place, part, entry));
         }

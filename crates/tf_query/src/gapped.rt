@@ -6,6 +6,7 @@ ghost use Rattle.tf_registry.specs.Row.{lists_of};
 ghost use Rattle.tf_manifest.specs.Rows.{key_of};
 ghost use Rattle.tf_query.specs.Gapped.{upper_end};
 
+use crate::finder::table_at;
 use crate::reads::key_of;
 use std::alloc::Allocator;
 use std::marker::Model;
@@ -126,9 +127,11 @@ pub fn gapped<'r, V: RowValue, A: Allocator, N: Naming, B: Allocator>(
     ensures ok { IfOk result (λ tables. tables.items ≡ lists_of references.now) }
     ensures refusal { IfErr result (λ refusal. refusal ≡ Refusal.NoMemory) }
 {
-    let mut tables = Vec::with_capacity(alloc, references.len())?;
+    let Ok(mut tables) = Vec::with_capacity(alloc, references.len()) else {
+        return Err(Refusal::NoMemory);
+    };
     for place in 0..references.len() {
-        tables.push_reserved(GappedTable::of(references[place].table().table()));
+        tables.push_reserved(GappedTable::of(table_at(references, place)));
     }
     Ok(tables)
 }

@@ -14,7 +14,7 @@ use crate::expected::Expected;
 use crate::filters::account_timestamps;
 use crate::look_ups::stored_account;
 use crate::scans::asks_no_field;
-use crate::timestamps::timestamps_within;
+use crate::timestamps::timestamps_unless_refused;
 use crate::window::Window;
 use crate::{rows_find_ids, scans_answer_filters, sums_date_history};
 use std::alloc::Allocator;
@@ -58,7 +58,7 @@ fn summed_timestamps<A: Allocator, N: Naming, B: Allocator + Copy>(
     let window = Window::of_account_filter(filter);
     let tables = manifest.sums.row(0);
     let sums = Prefix::expecting(tables, filter.account_id, window.direction, expected);
-    timestamps_within(alloc, Scan::leaf(alloc, sums)?, &window)
+    timestamps_unless_refused(alloc, Scan::leaf(alloc, sums), &window)
 }
 
 /// The timestamps at which a valid filter asks for balances of its account, in its direction.

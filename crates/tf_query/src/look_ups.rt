@@ -20,8 +20,7 @@ use tf_registry::Naming;
 fn account_stamp<A: Allocator, N: Naming>(manifest: &Manifest<A, N>, id: u128) -> Option<u64>
     ensures { result ≡ account_stamp_in manifest.now id }
 {
-    let timestamp = manifest.stamps.row(0).find(&key_of(id, 0))?;
-    Some(*timestamp)
+    manifest.stamps.row(0).find(&key_of(id, 0)).copied()
 }
 
 /// The account with this id, as it was stored, where its table has it: two look-ups in rows.
@@ -31,16 +30,20 @@ pub fn stored_account<'r, A: Allocator, N: Naming>(
 ) -> Option<&'r Account>
     ensures { option_copied result ≡ option_and_then (account_in manifest.now) (account_stamp_in manifest.now id) }
 {
-    let timestamp = account_stamp(manifest, id)?;
-    stored_account_at(manifest, timestamp)
+    match account_stamp(manifest, id) {
+        Some(timestamp) => stored_account_at(manifest, timestamp),
+        None => None,
+    }
 }
 
 /// The account with this id as answers show it: three look-ups in rows.
 fn account<A: Allocator, N: Naming>(manifest: &Manifest<A, N>, id: u128) -> Option<Account>
     ensures { result ≡ option_and_then (shown_in manifest.now) (account_stamp_in manifest.now id) }
 {
-    let timestamp = account_stamp(manifest, id)?;
-    account_at(manifest, timestamp)
+    match account_stamp(manifest, id) {
+        Some(timestamp) => account_at(manifest, timestamp),
+        None => None,
+    }
 }
 
 /// The timestamp in an entry of an id, if a transfer is stored with the id.
@@ -97,8 +100,10 @@ fn tables_of_rising<'r, A: Allocator, N: Naming, B: Allocator>(
     if ids.len() <= AHEAD || !are_rising(ids) {
         return Ok(None);
     }
-    let tables = gapped(alloc, manifest.ids.row(0).references())?;
-    Ok(Some(tables))
+    match gapped(alloc, manifest.ids.row(0).references()) {
+        Ok(tables) => Ok(Some(tables)),
+        Err(refusal) => Err(refusal),
+    }
 }
 
 /// The timestamps of the transfers with these ids, each in the place of its id, by one look-up after another in tables of ids.
@@ -189,7 +194,9 @@ fn accounts<A: Allocator, N: Naming, B: Allocator>(
     ensures room { IfOk result (λ rows. vec_capacity rows ≡ length ids.now) }
     ensures refusal { IfErr result (λ refusal. refusal ≡ Refusal.NoMemory) }
 {
-    let mut rows = Vec::with_capacity(alloc, ids.len())?;
+    let Ok(mut rows) = Vec::with_capacity(alloc, ids.len()) else {
+        return Err(Refusal::NoMemory);
+    };
     for id in ids {
         push_found(&mut rows, account(manifest, *id));
     }
@@ -206,8 +213,12 @@ fn transfers<A: Allocator, N: Naming, B: Allocator + Copy>(
     ensures room { IfOk result (λ rows. vec_capacity rows ≡ length ids.now) }
     ensures refusal { IfErr result (λ refusal. refusal ≡ Refusal.NoMemory) }
 {
-    let mut rows = Vec::with_capacity(alloc, ids.len())?;
-    let mut tables = tables_of_rising(alloc, manifest, ids)?;
+    let Ok(mut rows) = Vec::with_capacity(alloc, ids.len()) else {
+        return Err(Refusal::NoMemory);
+    };
+    let Ok(mut tables) = tables_of_rising(alloc, manifest, ids) else {
+        return Err(Refusal::NoMemory);
+    };
     let mut rest = ids;
     while !rest.is_empty() {
         let (part, others) = rest.split_at(rest.len().min(AHEAD));

@@ -8,7 +8,7 @@ ghost use Rattle.tf_scan.specs.Order.{IsInOrder};
 use crate::finder::Finder;
 use crate::reads::{found_transfer, push_record};
 use crate::residual::Residual;
-use crate::timestamps::{PART, read_part, seek_first};
+use crate::timestamps::{PART, read_part, room_for, seek_first};
 use crate::window::Window;
 use std::alloc::Allocator;
 use tf_manifest::Manifest;
@@ -20,7 +20,9 @@ use tf_scan::{Leaf, Scan};
 fn passing<'r>(residual: &Residual, found: Option<&'r Transfer>) -> Option<&'r Transfer>
     ensures { option_copied result ≡ option_and_then (passed residual.now) (option_copied found.entry) }
 {
-    let transfer = found?;
+    let Some(transfer) = found else {
+        return None;
+    };
     if residual.passes(transfer) {
         Some(transfer)
     } else {
@@ -71,8 +73,9 @@ fn read_passing<P: Leaf, A: Allocator, N: Naming, B: Allocator>(
     let asked = window.most.min(PART);
     let mut part = [0; PART];
     let mut count = read_part(scan, window, asked, &mut part);
-    let room = if count < asked { count } else { window.most };
-    let mut rows = Vec::with_capacity(alloc, room)?;
+    let Ok(mut rows) = room_for(alloc, count, asked, window) else {
+        return Err(Refusal::NoMemory);
+    };
     push_passing(manifest, residual, &part[..count], window.most, &mut rows);
     while count == asked && rows.len() < window.most {
         count = read_part(scan, window, asked, &mut part);

@@ -19,6 +19,17 @@ pub fn key_of(value: u128, timestamp: u64) -> Key
     Key { value, timestamp }
 }
 
+/// The record in what a row stores, if it was found.
+#[inline]
+pub fn record_of<'r, T>(found: Option<&'r Stored<T>>) -> Option<&'r T>
+    ensures { option_copied result ≡ stored_record (option_copied found.entry) }
+{
+    match found {
+        Some(stored) => Some(&stored.record),
+        None => None,
+    }
+}
+
 /// The account with this timestamp, as it was stored, where its table has it.
 pub fn stored_account_at<'r, A: Allocator, N: Naming>(
     manifest: &'r Manifest<A, N>,
@@ -26,8 +37,7 @@ pub fn stored_account_at<'r, A: Allocator, N: Naming>(
 ) -> Option<&'r Account>
     ensures { option_copied result ≡ account_in manifest.now timestamp }
 {
-    let stored = manifest.accounts.row(0).find(&key_of(0, timestamp))?;
-    Some(&stored.record)
+    record_of(manifest.accounts.row(0).find(&key_of(0, timestamp)))
 }
 
 /// The present state of the account with this timestamp, where its table has it.
@@ -66,9 +76,13 @@ pub fn account_at<A: Allocator, N: Naming>(
 ) -> Option<Account>
     ensures { result ≡ shown_in manifest.now timestamp }
 {
-    let stored = stored_account_at(manifest, timestamp)?;
-    let state = state_at(manifest, timestamp)?;
-    Some(shown(stored, state))
+    let Some(stored) = stored_account_at(manifest, timestamp) else {
+        return None;
+    };
+    match state_at(manifest, timestamp) {
+        Some(state) => Some(shown(stored, state)),
+        None => None,
+    }
 }
 
 /// Puts what was found at the end of the rows, which have room for it.
@@ -104,8 +118,7 @@ pub fn found_transfer<'r, A: Allocator, N: Naming>(
     ensures found { option_copied result ≡ stored_record (content_at (key_of 0 timestamp) transfers.old) }
     ensures same { transfers.new ≡ transfers.old }
 {
-    let stored = transfers.find(timestamp)?;
-    Some(&stored.record)
+    record_of(transfers.find(timestamp))
 }
 
 /// How many transfers are found before the first of them is copied. Each lies far from the others in memory, from which many
@@ -150,7 +163,9 @@ pub fn transfers_at<A: Allocator, N: Naming, B: Allocator>(
     ensures room { IfOk result (λ rows. vec_capacity rows ≡ length timestamps.now) }
     ensures refusal { IfErr result (λ refusal. refusal ≡ Refusal.NoMemory) }
 {
-    let mut rows = Vec::with_capacity(alloc, timestamps.len())?;
+    let Ok(mut rows) = Vec::with_capacity(alloc, timestamps.len()) else {
+        return Err(Refusal::NoMemory);
+    };
     let mut transfers = Finder::new(manifest.transfers.row(0));
     let mut rest = timestamps;
     while !rest.is_empty() {
@@ -172,7 +187,9 @@ pub fn accounts_at<A: Allocator, N: Naming, B: Allocator>(
     ensures room { IfOk result (λ rows. vec_capacity rows ≡ length timestamps.now) }
     ensures refusal { IfErr result (λ refusal. refusal ≡ Refusal.NoMemory) }
 {
-    let mut rows = Vec::with_capacity(alloc, timestamps.len())?;
+    let Ok(mut rows) = Vec::with_capacity(alloc, timestamps.len()) else {
+        return Err(Refusal::NoMemory);
+    };
     for timestamp in timestamps {
         push_found(&mut rows, account_at(manifest, *timestamp));
     }

@@ -1,5 +1,5 @@
 //! The scans that filters are answered by.
-ghost use Rattle.std.specs.Prelude.{◌≡◌, ◌&&◌, ◌||◌, ℕ, true, not, is_some, IfErr, IfOk, IfSome, IsOkAnd};
+ghost use Rattle.std.specs.Prelude.{◌≡◌, ◌&&◌, ◌||◌, ℕ, true, not, is_some, Err, IfErr, IfOk, IfSome, IsOkAnd, Ok, Some};
 ghost use Rattle.std.specs.List.{list_all};
 ghost use Rattle.tf_journal.specs.Filter.{asks_credits, asks_debits};
 ghost use Rattle.tf_registry.specs.Row.{content_at};
@@ -65,10 +65,12 @@ fn narrowed_by<P: Leaf + Drop, B: Allocator + Copy>(
     ensures members { IfOk result (λ narrowed. IsOkAnd scan (λ s. (t : ℕ) → is_among t narrowed.left ≡ (is_left t left && is_among t s.left))) }
     ensures refusal { IfErr result (λ refusal. refusal ≡ Refusal.NoMemory) }
 {
-    match (left, scan) {
-        (Some(left), Ok(scan)) => Scan::intersection(alloc, left, scan),
-        (None, scan) => scan,
-        (Some(_), Err(refusal)) => Err(refusal),
+    match scan {
+        Ok(scan) => match left {
+            Some(left) => Scan::intersection(alloc, left, scan),
+            None => Ok(scan),
+        },
+        Err(refusal) => Err(refusal),
     }
 }
 
@@ -112,7 +114,10 @@ pub fn narrowed<'r, A: Allocator, N: Naming, B: Allocator + Copy>(
     for condition in conditions {
         if condition.value != 0 {
             let asked = index_scan(alloc, manifest, window, condition.row, condition.value);
-            left = Some(narrowed_by(alloc, left, asked)?);
+            match narrowed_by(alloc, left, asked) {
+                Ok(scan) => left = Some(scan),
+                Err(refusal) => return Err(refusal),
+            }
         }
     }
     Ok(left)
@@ -135,12 +140,17 @@ fn sides<'r, A: Allocator, N: Naming, B: Allocator + Copy>(
     if filter.flags & AccountFilter::CREDITS == 0 {
         return index_scan(alloc, manifest, window, UnitRow::TransferDebit, account);
     }
-    let credits = index_scan(alloc, manifest, window, UnitRow::TransferCredit, account)?;
+    let credits = index_scan(alloc, manifest, window, UnitRow::TransferCredit, account);
     if filter.flags & AccountFilter::DEBITS == 0 {
-        return Ok(credits);
+        return credits;
     }
-    let debits = index_scan(alloc, manifest, window, UnitRow::TransferDebit, account);
-    united(alloc, credits, debits)
+    match credits {
+        Ok(credits) => {
+            let debits = index_scan(alloc, manifest, window, UnitRow::TransferDebit, account);
+            united(alloc, credits, debits)
+        }
+        Err(refusal) => Err(refusal),
+    }
 }
 
 /// Whether a filter of an account's transfers asks for none of their fields.
@@ -151,6 +161,21 @@ pub fn asks_no_field(filter: &AccountFilter) -> bool
         && filter.user_data_64 == 0
         && filter.user_data_32 == 0
         && filter.code == 0
+}
+
+/// The scan that there is, unless it was refused.
+fn present<P: Leaf + Drop, B: Allocator>(
+    found: Result<Option<Scan<P, B>>, Refusal>,
+) -> Result<Scan<P, B>, Refusal>
+    requires { IfOk found (λ some. is_some some ≡ true) }
+    ensures scan { IfOk result (λ scan. found ≡ Ok (Some scan)) }
+    ensures refusal { IfErr result (λ refusal. found ≡ Err refusal) }
+{
+    match found {
+        Ok(Some(scan)) => Ok(scan),
+        Ok(None) => unreachable!(),
+        Err(refusal) => Err(refusal),
+    }
 }
 
 /// The timestamps of the transfers that a filter of an account's transfers asks for: those of its sides, where its fields
@@ -166,11 +191,11 @@ pub fn account_scan<'r, A: Allocator, N: Naming, B: Allocator + Copy>(
     ensures members { IfOk result (λ scan. (t : ℕ) → is_among t scan.left ≡ account_filter_at manifest.now filter.now t) }
     ensures refusal { IfErr result (λ refusal. refusal ≡ Refusal.NoMemory) }
 {
-    let both = sides(alloc, manifest, window, filter)?;
-    let fields = field_conditions(filter);
-    let left = narrowed(alloc, manifest, window, Some(both), &fields)?;
-    match left {
-        Some(scan) => Ok(scan),
-        None => unreachable!(),
+    match sides(alloc, manifest, window, filter) {
+        Ok(both) => {
+            let fields = field_conditions(filter);
+            present(narrowed(alloc, manifest, window, Some(both), &fields))
+        }
+        Err(refusal) => Err(refusal),
     }
 }

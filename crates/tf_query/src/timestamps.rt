@@ -1,10 +1,11 @@
 //! The timestamps that a filter asks for, read off a scan.
-ghost use Rattle.std.specs.Prelude.{◌≡◌, ◌≤◌, [], true, false, length, nat_lt, take, slice_get, vec_capacity, IfErr, IfOk, IfSome, if◌then◌else◌};
+ghost use Rattle.std.specs.Prelude.{◌≡◌, ◌<◌, ◌≤◌, ℕ, Bool, [], true, false, length, take, slice_get, vec_capacity, IfErr, IfOk, IfSome};
 ghost use Rattle.std.specs.List.{AllByRecursion};
 ghost use Rattle.tf_journal.specs.Filter.{is_within};
 ghost use Rattle.tf_query.specs.Reading.{AreFrom, IsPart, all_within};
-ghost use Rattle.tf_query.specs.Windows.{first_within};
+ghost use Rattle.tf_query.specs.Windows.{AreFirst, first_within};
 ghost use Rattle.tf_scan.specs.Order.{IsInOrder};
+ghost use Rattle.tf_scan.specs.Sets.{is_among};
 
 use crate::window::{FEW, Window};
 use std::alloc::Allocator;
@@ -67,15 +68,24 @@ pub fn read_part<P: Leaf, B: Allocator>(
     count_within(window, &part[..taken])
 }
 
-/// Room for the timestamps that a window asks for, of which so many were read at once: for just those where there are no more, else
-/// for as many as the window has.
-fn room_for<B: Allocator>(alloc: B, read: usize, window: &Window) -> Result<Vec<u64, B>, Refusal>
+/// Room for what a window asks for, of whose timestamps so many were read of a part that asked for so many: for just those where there
+/// are no more, else for as many as the window has.
+pub fn room_for<T, B: Allocator>(
+    alloc: B,
+    read: usize,
+    asked: usize,
+    window: &Window,
+) -> Result<Vec<T, B>, Refusal>
     ensures empty { IfOk result (λ room. room.items ≡ []) }
-    ensures room { IfOk result (λ room. vec_capacity room ≡ (if nat_lt read 256 then read else window.now.most)) }
+    ensures few { IfOk result (λ room. read < asked → vec_capacity room ≡ read) }
+    ensures many { IfOk result (λ room. asked ≤ read → vec_capacity room ≡ window.now.most) }
     ensures refusal { IfErr result (λ refusal. refusal ≡ Refusal.NoMemory) }
 {
-    let most = if read < PART { read } else { window.most };
-    Ok(Vec::with_capacity(alloc, most)?)
+    let most = if read < asked { read } else { window.most };
+    match Vec::with_capacity(alloc, most) {
+        Ok(room) => Ok(room),
+        Err(_) => Err(Refusal::NoMemory),
+    }
 }
 
 /// Reads the first timestamps of a scan that lie in a window, as `timestamps_within` does.
@@ -91,11 +101,17 @@ fn read_within<P: Leaf, B: Allocator>(
     seek_first(scan, window);
     let mut part = [0; PART];
     let mut count = read_part(scan, window, window.most, &mut part);
-    let mut timestamps = room_for(alloc, count, window)?;
-    timestamps.extend_from_slice(&part[..count])?;
+    let Ok(mut timestamps) = room_for(alloc, count, PART, window) else {
+        return Err(Refusal::NoMemory);
+    };
+    let Ok(()) = timestamps.extend_from_slice(&part[..count]) else {
+        return Err(Refusal::NoMemory);
+    };
     while count == PART {
         count = read_part(scan, window, window.most - timestamps.len(), &mut part);
-        timestamps.extend_from_slice(&part[..count])?;
+        let Ok(()) = timestamps.extend_from_slice(&part[..count]) else {
+            return Err(Refusal::NoMemory);
+        };
     }
     Ok(timestamps)
 }
@@ -115,6 +131,22 @@ pub fn timestamps_within<P: Leaf + Drop, B: Allocator>(
     ensures refusal { IfErr result (λ refusal. refusal ≡ Refusal.NoMemory) }
 {
     read_within(alloc, &mut scan, window)
+}
+
+/// The first timestamps in a window of a scan, unless that was refused: then that is the answer. `NoMemory` is the only refusal.
+pub fn timestamps_unless_refused<P: Leaf + Drop, B: Allocator>(
+    alloc: B,
+    scan: Result<Scan<P, B>, Refusal>,
+    window: &Window,
+) -> Result<Vec<u64, B>, Refusal>
+    requires { IfErr scan (λ refusal. refusal ≡ Refusal.NoMemory) }
+    ensures ok { (accepts : ℕ → Bool) → IfOk scan (λ s. s.direction ≡ window.now.direction) → IfOk scan (λ s. (t : ℕ) → is_among t s.left ≡ accepts t) → IfOk result (λ timestamps. AreFirst window.now accepts timestamps.items) }
+    ensures refusal { IfErr result (λ refusal. refusal ≡ Refusal.NoMemory) }
+{
+    match scan {
+        Ok(scan) => timestamps_within(alloc, scan, window),
+        Err(refusal) => Err(refusal),
+    }
 }
 
 /// Moves the first timestamps of a scan that lie in a window, which has only a few, to the front of `part`, and tells how many those

@@ -7,7 +7,7 @@ ghost use Rattle.tf_registry.specs.Row.{content_at, lists_of};
 ghost use Rattle.tf_scan.specs.Place.{rows_behind};
 ghost use Rattle.tf_query.specs.Walk.{AreComing, AreTableRows};
 
-use crate::finder::{Part, newest};
+use crate::finder::{Part, newest, table_at};
 use std::alloc::Allocator;
 use std::marker::Model;
 use tf_manifest::RowValue;
@@ -41,8 +41,12 @@ impl<'r, V> Coming<'r, V> {
         let Column::Each(own_entries) = column else {
             return None;
         };
-        let (_own_key, keys) = direction.split_first(own_keys)?;
-        let (_own_entry, entries) = direction.split_first(own_entries)?;
+        let Some((_own_key, keys)) = direction.split_first(own_keys) else {
+            return None;
+        };
+        let Some((_own_entry, entries)) = direction.split_first(own_entries) else {
+            return None;
+        };
         Some(Coming {
             part,
             keys,
@@ -59,8 +63,12 @@ impl<'r, V> Coming<'r, V> {
         if !self.part.has(key.timestamp) {
             return None;
         }
-        let (other, keys) = direction.split_first(self.keys)?;
-        let (entry, entries) = direction.split_first(self.entries)?;
+        let Some((other, keys)) = direction.split_first(self.keys) else {
+            return None;
+        };
+        let Some((entry, entries)) = direction.split_first(self.entries) else {
+            return None;
+        };
         self.keys = keys;
         self.entries = entries;
         if other.timestamp == key.timestamp && other.value == key.value {
@@ -164,13 +172,12 @@ impl<'r, V: RowValue, A: Allocator, N: Naming> Walk<'r, V, A, N> {
         ensures found { option_copied result ≡ content_at key.now self.old }
         ensures same { self.new ≡ self.old }
     {
-        let (place, part, entry) = newest(self.references, key, self.expected)?;
-        if place < self.references.len() {
-            let table = self.references[place].table().table();
-            let expected = expected_in(self.expected, place);
-            let coming = Coming::behind(self.direction, part, table, key, expected);
-            self.coming = coming;
-        }
+        let Some((place, part, entry)) = newest(self.references, key, self.expected) else {
+            return None;
+        };
+        let table = table_at(self.references, place);
+        let expected = expected_in(self.expected, place);
+        self.coming = Coming::behind(self.direction, part, table, key, expected);
         entry
     }
 }

@@ -51,15 +51,15 @@ pub trait VersionOf<W: Shows>: Shows {
         ensures { IsSomeAnd place.new (λ placed. IfSome version.old (λ version. Self.journal placed ≡ W.journal version)) };
 }
 
-/// The version itself, for code that is generic in it. It takes no memory.
-pub(crate) fn version_as<W: Shows + Drop, V: VersionOf<W> + Drop>(version: W) -> V
-    ensures { V.journal result ≡ W.journal version }
+/// The version of a place, which it takes out, as one of the type that code is generic in. It takes no memory.
+pub(crate) fn version_in<W: Shows, V: VersionOf<W> + Drop>(place: &mut Option<W>) -> V
+    requires { is_some place.old ≡ true }
+    ensures { IfSome place.old (λ version. V.journal result ≡ W.journal version) }
 {
-    let mut version = Some(version);
-    let mut place = None;
-    V::move_to(&mut version, &mut place);
-    match place {
-        Some(placed) => placed,
+    let mut placed = None;
+    V::move_to(place, &mut placed);
+    match placed {
+        Some(version) => version,
         None => unreachable!(),
     }
 }
@@ -79,11 +79,7 @@ where
     R: Wait + Drop,
 {
     fn show(&mut self, version: &mut Option<W>, front: &Front<S>) -> Result<(), Refusal> {
-        let mut place = None;
-        V::move_to(version, &mut place);
-        match place {
-            Some(version) => show(self, Published::new(version, front)),
-            None => unreachable!(),
-        }
+        let version: V = version_in(version);
+        show(self, Published::new(version, front))
     }
 }

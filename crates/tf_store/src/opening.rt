@@ -8,7 +8,7 @@ ghost use Rattle.tf_rows.specs.Nest.{AreEmpty};
 ghost use Rattle.tf_publish.specs.Tables.{nothing_fresh};
 ghost use Rattle.tf_readers.specs.Reader.{HasSeen};
 
-use crate::copies::version_as;
+use crate::copies::version_in;
 use crate::public::{Public, first_versions};
 use crate::queue::Queue;
 use crate::tally::Tally;
@@ -78,7 +78,11 @@ where
     let writer = history.named::<S>();
     let shares = cut(alloc, whole, shares)?;
     let (first, again) = first_versions(alloc, registries, writer.front())?;
-    Ok(((book, writer), shares, (first, version_as(again))))
+    Ok((
+        (book, writer),
+        shares,
+        (first, version_in(&mut Some(again))),
+    ))
 }
 
 /// A new store, its shares, and its readers, which enter versions `V`.

@@ -215,7 +215,7 @@ fn are_counted(done: &Vec<Done, Global>, totals: Totals) -> bool {
 fn told<X: Drop, E: Drop>(ended: Result<(X, Totals, Vec<Done, Global>), E>) -> Tried {
     match ended {
         Ok((store, totals, done)) => {
-            store.close();
+            drop(store);
             if are_counted(&done, totals) {
                 Tried::Storm(totals)
             } else {

@@ -12,13 +12,13 @@ first-few : (g : Over) (c : goal.After-transfers_at g) → AreFirst (account_win
 first-few g c =
     first-read {E = ℕ} (Ok (take c.few_within-count.result c.few_within-count.new.part)) (λ timestamps. timestamps) (account_window c.args.filter.now) c.of_account_filter-window.result _
     (account_filter_at c.args.manifest.now c.args.filter.now) _ c.of_account_filter-window.ensures
-    (c.in_ok-scan.ensures.direction ∙ ap (λ w. w.direction) c.of_account_filter-window.ensures) c.few_within-count.ensures.first c.few_within-count.ensures.in_order
-    c.in_ok-scan.ensures.members
+    (c.in-Ok.ensures.direction ∙ ap (λ w. w.direction) c.of_account_filter-window.ensures) c.few_within-count.ensures.first c.few_within-count.ensures.in_order
+    c.in-Ok.ensures.members
 
-pub returns-clause-ok : goal.returns-clause-ok
-returns-clause-ok g c =
+pub returns-in-Ok-clause-ok : goal.returns-in-Ok-clause-ok
+returns-in-Ok-clause-ok g c =
     rows-of-first c.transfers_at.result (λ v. v.items) (transfer_in c.args.manifest.now) (account_window c.args.filter.now) (account_filter_at c.args.manifest.now c.args.filter.now) _ _ refl (first-few g c) c.transfers_at.ensures.ok
 
-pub returns-clause-room : goal.returns-clause-room
-returns-clause-room g c =
+pub returns-in-Ok-clause-room : goal.returns-in-Ok-clause-room
+returns-in-Ok-clause-room g c =
     few-rows c.transfers_at.result (λ rows. vec_capacity rows) (account_window c.args.filter.now) (account_filter_at c.args.manifest.now c.args.filter.now) _ _ refl (first-few g c) c.transfers_at.ensures.room

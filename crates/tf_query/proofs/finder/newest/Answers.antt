@@ -1,18 +1,15 @@
-use Rattle.std.proofs.Common.{◌≡◌, Some, None, take, slice_get, sym, ◌∙◌, ap, add-one, arith}
+use Rattle.std.proofs.Common.{◌≡◌, Some, None, take, sym, ◌∙◌, ap, add-one}
 use Rattle.std.specs.Option.{option_copied, option_map}
 use Rattle.tf_table.specs.Content.{entry_at, entry_of}
-use Rattle.tf_registry.specs.Table.{Shown, Table}
 use Rattle.tf_registry.specs.Row.{lists_of}
-use Rattle.tf_query.proofs.Finding.{entry_next, entry_there, silent_next, rows_there}
+use Rattle.tf_query.proofs.Finding.{entry_next, entry_there, silent_next}
 use Rattle.tf_query.proofs.finder.newest.Goals as goal
 
-pub returns-in-Some : goal.returns-in-Some
-returns-in-Some g c =
-    let rows = c.table-table.result.now in
+pub returns-in-Some-clause-newest : goal.returns-in-Some-clause-newest
+returns-in-Some-clause-newest g c =
+    let rows = c.table_at-table.result.now in
     let lists = lists_of c.args.references.now in
-    let there : slice_get lists c.loop-place.place ≡ Some rows =
-    rows_there (λ (t : Shown g.row.V.Denot). t.table.rows) c.args.references.now c.loop-place.place c.index-references-place.result rows (omega arith) c.index-references-place.is
-    (c.table-table.ensures ∙ ap (λ (t : Table g.row.V.Denot). t.rows) c.table.ensures) in
+    let there = c.table_at-table.ensures in
     let has : entry_at c.args.key.now rows ≡ Some (option_copied c.in-Some.entry) = sym c.find_in.ensures ∙ ap (option_map option_copied) c.in-Some.is in
     record {
       found = entry_there c.args.key.now c.loop-place.place lists rows (option_copied c.in-Some.entry) c.loop-place.invariant.absent there has;
@@ -21,11 +18,9 @@ returns-in-Some g c =
 
 pub loop-place-preserved : goal.loop-place-preserved
 loop-place-preserved g c =
-    let rows = c.table-table.result.now in
+    let rows = c.table_at-table.result.now in
     let lists = lists_of c.args.references.now in
-    let there : slice_get lists c.loop-place.place ≡ Some rows =
-    rows_there (λ (t : Shown g.row.V.Denot). t.table.rows) c.args.references.now c.loop-place.place c.index-references-place.result rows (omega arith) c.index-references-place.is
-    (c.table-table.ensures ∙ ap (λ (t : Table g.row.V.Denot). t.rows) c.table.ensures) in
+    let there = c.table_at-table.ensures in
     let hasnt : entry_at c.args.key.now rows ≡ None = sym c.find_in.ensures ∙ ap (option_map option_copied) c.in_default.is in
     record {
       absent = ap (λ n. entry_of c.args.key.now (take n lists)) (add-one c.loop-place.place) ∙ entry_next c.args.key.now c.loop-place.place lists rows c.loop-place.invariant.absent there ∙ hasnt;

@@ -2,9 +2,8 @@ use Rattle.std.proofs.Common.{◌≡◌, ◌∙◌, ◌++◌, ◌∷◌, [], Lis
 use Rattle.std.proofs.lemmas.List.{length-map, length-take-le, take_more, take_all}
 use Rattle.std.proofs.lemmas.Option.{get_or_from_slice_get}
 use Rattle.tf_table.specs.declared.key.Key.{Key}
-use Rattle.tf_registry.specs.Table.{Shown, Table}
+use Rattle.tf_registry.specs.Table.{Shown}
 use Rattle.tf_registry.specs.Row.{lists_of}
-use Rattle.tf_query.proofs.Finding.{rows_there}
 use Rattle.tf_query.proofs.gapped.gapped.Goals as goal
 
 pub push_reserved-requires : goal.push_reserved-requires
@@ -22,9 +21,7 @@ loop-place-preserved g c =
     let shown = c.args.references.now in
     let lists = lists_of shown in
     let long : length lists ≡ length c.args.references.now = length-map shown (λ (t : Shown g.row.V.Denot). t.table.rows) in
-    let there : slice_get lists i ≡ Some rows =
-    rows_there (λ (t : Shown g.row.V.Denot). t.table.rows) c.args.references.now i c.index-references-place.result rows (omega arith) c.index-references-place.is
-    (c.of.ensures ∙ c.table-in-loop-place.ensures ∙ ap (λ (t : Table g.row.V.Denot). t.rows) c.table.ensures) in
+    let there : slice_get lists i ≡ Some rows = c.table_at.ensures ∙ ap Some (sym c.of.ensures) in
     let one : get_or lists i rows ≡ rows = get_or_from_slice_get lists i rows rows there in
     record {
       items = c.push_reserved.ensures.items

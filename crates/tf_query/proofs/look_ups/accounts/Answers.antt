@@ -2,7 +2,6 @@ use Rattle.std.proofs.Common.{ap, arith, ◌∙◌}
 use Rattle.std.specs.List.{filter_map}
 use Rattle.std.specs.Option.{option_and_then}
 use Rattle.std.proofs.lemmas.List.{take_all}
-use Rattle.std.proofs.lemmas.Result.{IfOk-from_err}
 use Rattle.tf_query.specs.Reads.{account_stamp_in, shown_in}
 use Rattle.tf_query.proofs.Found.{more-found}
 use Rattle.tf_query.proofs.look_ups.accounts.Goals as goal
@@ -13,12 +12,6 @@ loop-id-preserved g c = record {
   few = omega (arith, c.push_found.ensures.len, c.loop-id.invariant.few);
   room = c.push_found.ensures.room ∙ c.loop-id.invariant.room;
 }
-
-pub returns-in_err-rows-clause-ok : goal.returns-in_err-rows-clause-ok
-returns-in_err-rows-clause-ok g c = IfOk-from_err _ _ c.from_residual.ensures.0
-
-pub returns-in_err-rows-clause-room : goal.returns-in_err-rows-clause-room
-returns-in_err-rows-clause-room g c = IfOk-from_err _ _ c.from_residual.ensures.0
 
 pub push_found-requires : goal.push_found-requires
 push_found-requires g c = omega (arith, c.loop-id-test.true, c.loop-id.invariant.few, c.loop-id.invariant.room)

@@ -2,7 +2,6 @@ use Rattle.std.proofs.Common.{◌++◌, ◌∙◌, ap, arith, length, take}
 use Rattle.std.specs.List.{filter_map}
 use Rattle.std.specs.Option.{option_and_then, option_copied}
 use Rattle.std.proofs.lemmas.List.{length-take}
-use Rattle.std.proofs.lemmas.Result.{IfOk-from_err}
 use Rattle.tf_query.specs.Reads.{transfer_stamp_in, transfer_in}
 use Rattle.tf_query.proofs.Ahead.{more-ahead}
 use Rattle.tf_query.proofs.look_ups.transfers.Goals as goal
@@ -18,18 +17,12 @@ loop-rest-preserved g c =
       tables = c.transfers_ahead-found.ensures.tables;
     }
 
-pub returns-in_err-rows-clause-ok : goal.returns-in_err-rows-clause-ok
-returns-in_err-rows-clause-ok g c = IfOk-from_err _ _ c.from_residual.ensures.0
-
-pub returns-in_err-rows-clause-room : goal.returns-in_err-rows-clause-room
-returns-in_err-rows-clause-room g c = IfOk-from_err _ _ c.from_residual.ensures.0
-
 pub loop-rest-init : goal.loop-rest-init
 loop-rest-init g c = record {
-  found = ap (λ rows. rows ++ filter_map (λ id. option_and_then (transfer_in c.args.manifest.now) (transfer_stamp_in c.args.manifest.now id)) c.args.ids.now) c.in_ok-rows.ensures.items;
-  few = omega (arith, c.in_ok-rows.ensures.len);
-  room = c.in_ok-rows.ensures.exact;
-  tables = c.in_ok-tables.ensures.ok;
+  found = ap (λ rows. rows ++ filter_map (λ id. option_and_then (transfer_in c.args.manifest.now) (transfer_stamp_in c.args.manifest.now id)) c.args.ids.now) c.in-Ok.ensures.items;
+  few = omega (arith, c.in-Ok.ensures.len);
+  room = c.in-Ok.ensures.exact;
+  tables = c.in-Ok-tables_of_rising.ensures.ok;
 }
 
 pub split_at-requires : goal.split_at-requires
@@ -43,3 +36,9 @@ returns-clause-room g c = c.loop-rest.invariant.room
 
 pub returns-clause-refusal : goal.returns-clause-refusal
 returns-clause-refusal g c = tt
+
+pub transfers_ahead-found-requires-clause-ids : goal.transfers_ahead-found-requires-clause-ids
+transfers_ahead-found-requires-clause-ids g c = omega (arith, c.min.ensures, c.split_at.ensures.front_len)
+
+pub transfers_ahead-found-requires-clause-tables : goal.transfers_ahead-found-requires-clause-tables
+transfers_ahead-found-requires-clause-tables g c = c.loop-rest.invariant.tables

@@ -1,12 +1,15 @@
-use Rattle.std.proofs.Common.{◌≡◌, ◌∙◌, arith, inl, inr, subst, sym, vec_capacity}
+use Rattle.std.proofs.Common.{◌≡◌, ◌<◌, ◌≤◌, ◌∙◌, ℕ, ap, arith, inl, inr, length, subst, sym, vec_capacity}
 use Rattle.std.proofs.lemmas.List.{length-take-le}
-use Rattle.std.proofs.lemmas.Result.{IfOk-from_err}
 use Rattle.tf_scan.specs.declared.direction.Direction.{Direction}
 use Rattle.tf_query.specs.Reading.{AreFrom}
 use Rattle.tf_query.proofs.Reading.{part-in}
 use Rattle.tf_query.proofs.Testing.{left-behind, tested-all, tested-first, tested-next}
 use Rattle.tf_query.proofs.passing.read_passing.Goals as goal
-use Rattle.tf_query.proofs.passing.read_passing.Goals.{else-count-asked, else-loop-count-test, then-count-asked, then-loop-count-test+else-len-window}
+use Rattle.tf_query.proofs.passing.read_passing.Goals.{else-loop-count-test, then-loop-count-test+else-len-window}
+
+-- the room is enough for what was read, and no more than a window has
+roomy : (count asked most room : ℕ) → count ≤ asked → asked ≤ most → (count < asked → room ≡ count) → (asked ≤ count → room ≡ most) → (count ≤ room) × (room ≤ most)
+roomy count asked most room inside within few many = (grind arith, grind arith)
 
 pub read_part-count-requires : goal.read_part-count-requires
 read_part-count-requires g c = subst (λ (d : Direction). AreFrom d c.args.window.now c.seek_first.new.scan.left) (sym c.seek_first.ensures.direction) c.seek_first.ensures.from
@@ -15,24 +18,14 @@ pub slice_bounds-push_passing-end : goal.slice_bounds-push_passing-end
 slice_bounds-push_passing-end g c = sym (length-take-le c.read_part-count.result _ c.read_part-count.ensures.part.inside)
 
 pub push_passing-requires-clause-few : goal.push_passing-requires-clause-few
-push_passing-requires-clause-few g c = omega (arith, c.in_ok-rows.ensures.len)
+push_passing-requires-clause-few g c = omega (arith, ap length c.in-Ok.ensures.empty, c.in-Ok.rows.ok.0)
 
 pub push_passing-requires-clause-room : goal.push_passing-requires-clause-room
 push_passing-requires-clause-room g c =
     let long = length-take-le c.read_part-count.result _ c.read_part-count.ensures.part.inside in
-    elim c.if-count-asked.branch [
-      | then-count-asked w ↦ omega (arith, long, c.in_ok-rows.ensures.len, c.in_ok-rows.ensures.exact, w.room-is)
-      | else-count-asked w ↦ omega (arith, c.in_ok-rows.ensures.exact, w.room-is)
-    ]
-
-pub returns-in_err-rows-clause-ok : goal.returns-in_err-rows-clause-ok
-returns-in_err-rows-clause-ok g c = IfOk-from_err _ _ c.from_residual.ensures.0
-
-pub returns-in_err-rows-clause-in_order : goal.returns-in_err-rows-clause-in_order
-returns-in_err-rows-clause-in_order g c = c.seek_first.ensures.in_order
-
-pub returns-in_err-rows-clause-room : goal.returns-in_err-rows-clause-room
-returns-in_err-rows-clause-room g c = IfOk-from_err _ _ c.from_residual.ensures.0
+    let part = part-in _ _ c.args.window.now c.min-asked.result c.read_part-count.result _ _ _ c.seek_first.ensures.direction c.read_part-count.ensures.part in
+    let enough = roomy c.read_part-count.result c.min-asked.result c.args.window.now.most (vec_capacity c.in-Ok.rows) part.few (omega arith) c.in-Ok.ensures.few c.in-Ok.ensures.many in
+    omega (arith, long, ap length c.in-Ok.ensures.empty, c.in-Ok.rows.ok.0, enough.0)
 
 pub read_part-count-requires-in-loop-count : goal.read_part-count-requires-in-loop-count
 read_part-count-requires-in-loop-count g c = subst (λ (d : Direction). AreFrom d c.args.window.now c.loop-count.scan.left) (sym c.loop-count.invariant.direction) c.loop-count.invariant.tested.left_from
@@ -69,18 +62,11 @@ returns-clause-refusal g c = tt
 pub loop-count-init : goal.loop-count-init
 loop-count-init g c =
     let part = part-in _ _ c.args.window.now c.min-asked.result c.read_part-count.result _ _ _ c.seek_first.ensures.direction c.read_part-count.ensures.part in
-    let roomy : vec_capacity c.push_passing.new.rows ≡ c.if-count-asked.room = c.push_passing.ensures.room ∙ c.in_ok-rows.ensures.exact in
     record {
       direction = c.read_part-count.ensures.direction ∙ c.seek_first.ensures.direction;
-      tested = tested-first c.args.manifest.now c.args.residual.now _ c.args.window.now _ _ _ _ _ _ _ _ c.seek_first.ensures.same c.in_ok-rows.ensures.items part (omega arith) c.push_passing.ensures.items;
-      room = elim c.if-count-asked.branch [
-        | then-count-asked w ↦ omega (arith, part.few, roomy, w.room-is, w.if-count-asked)
-        | else-count-asked w ↦ omega (arith, roomy, w.room-is)
-      ];
-      enough = λ e. elim c.if-count-asked.branch [
-        | then-count-asked w ↦ absurd (omega (arith, w.if-count-asked))
-        | else-count-asked w ↦ roomy ∙ w.room-is
-      ];
+      tested = tested-first c.args.manifest.now c.args.residual.now _ c.args.window.now _ _ _ _ _ _ _ _ c.seek_first.ensures.same c.in-Ok.ensures.empty part (omega arith) c.push_passing.ensures.items;
+      room = omega (arith, c.push_passing.ensures.room, (roomy c.read_part-count.result c.min-asked.result c.args.window.now.most (vec_capacity c.in-Ok.rows) part.few (omega arith) c.in-Ok.ensures.few c.in-Ok.ensures.many).1);
+      enough = λ e. c.push_passing.ensures.room ∙ c.in-Ok.ensures.many (omega (arith, e));
     }
 
 pub loop-count-preserved : goal.loop-count-preserved

@@ -1,7 +1,6 @@
 use Rattle.std.proofs.Common.{ap, arith, ◌∙◌}
 use Rattle.std.specs.List.{filter_map}
 use Rattle.std.proofs.lemmas.List.{take_all}
-use Rattle.std.proofs.lemmas.Result.{IfOk-from_err}
 use Rattle.tf_query.specs.Reads.{shown_in}
 use Rattle.tf_query.proofs.Found.{more-found}
 use Rattle.tf_query.proofs.reads.accounts_at.Goals as goal
@@ -12,12 +11,6 @@ loop-timestamp-preserved g c = record {
   few = omega (arith, c.push_found.ensures.len, c.loop-timestamp.invariant.few);
   room = c.push_found.ensures.room ∙ c.loop-timestamp.invariant.room;
 }
-
-pub returns-in_err-rows-clause-ok : goal.returns-in_err-rows-clause-ok
-returns-in_err-rows-clause-ok g c = IfOk-from_err _ _ c.from_residual.ensures.0
-
-pub returns-in_err-rows-clause-room : goal.returns-in_err-rows-clause-room
-returns-in_err-rows-clause-room g c = IfOk-from_err _ _ c.from_residual.ensures.0
 
 pub push_found-requires : goal.push_found-requires
 push_found-requires g c = omega (arith, c.loop-timestamp-test.true, c.loop-timestamp.invariant.few, c.loop-timestamp.invariant.room)

@@ -2,7 +2,6 @@ use Rattle.std.proofs.Common.{◌++◌, ◌∙◌, ap, arith, length, map, take}
 use Rattle.std.specs.List.{filter_map}
 use Rattle.std.specs.Option.{option_copied}
 use Rattle.std.proofs.lemmas.List.{length-take}
-use Rattle.std.proofs.lemmas.Result.{IfOk-from_err}
 use Rattle.tf_registry.specs.Row.{content_at}
 use Rattle.tf_manifest.specs.declared.kind.Kind.TheVariants as kind
 use Rattle.tf_manifest.specs.Rows.{key_of}
@@ -26,18 +25,12 @@ loop-transfers-preserved g c =
 pub row-requires : goal.row-requires
 row-requires g c = omega (arith, c.manifest.invariant.1.transfers)
 
-pub returns-in_err-rows-clause-ok : goal.returns-in_err-rows-clause-ok
-returns-in_err-rows-clause-ok g c = IfOk-from_err _ _ c.from_residual.ensures.0
-
-pub returns-in_err-rows-clause-room : goal.returns-in_err-rows-clause-room
-returns-in_err-rows-clause-room g c = IfOk-from_err _ _ c.from_residual.ensures.0
-
 pub loop-transfers-init : goal.loop-transfers-init
 loop-transfers-init g c = record {
-  found = ap (λ rows. rows ++ filter_map (transfer_in c.args.manifest.now) c.args.timestamps.now) c.in_ok-rows.ensures.items;
-  few = omega (arith, c.in_ok-rows.ensures.len);
+  found = ap (λ rows. rows ++ filter_map (transfer_in c.args.manifest.now) c.args.timestamps.now) c.in-Ok.ensures.items;
+  few = omega (arith, c.in-Ok.ensures.len);
   tables = c.new-transfers.ensures ∙ c.row.ensures.row ∙ ap (λ (v : View). tables_by v kind.Transfer) c.manifest.view_is;
-  room = c.in_ok-rows.ensures.exact;
+  room = c.in-Ok.ensures.exact;
 }
 
 pub split_at-requires : goal.split_at-requires

@@ -10,7 +10,7 @@ loop-count-preserved g c =
     let part = part-in _ _ c.args.window.now _ c.read_part-count-in-loop-count.result _ _ _ c.loop-count.invariant.direction c.read_part-count-in-loop-count.ensures.part in
     record {
       direction = c.read_part-count-in-loop-count.ensures.direction ∙ c.loop-count.invariant.direction;
-      read = read-next _ c.args.window.now c.loop-count.count _ 256 _ _ _ _ _ _ _ c.loop-count.invariant.read (omega arith) part (omega arith) c.in_ok-extend_from_slice-2.ensures.items;
+      read = read-next _ c.args.window.now c.loop-count.count _ 256 _ _ _ _ _ _ _ c.loop-count.invariant.read (omega arith) part (omega arith) c.in-Ok-extend_from_slice-2.ensures.items;
     }
 
 pub read_part-count-requires : goal.read_part-count-requires
@@ -40,5 +40,5 @@ loop-count-init g c =
       direction = c.read_part-count.ensures.direction ∙ c.seek_first.ensures.direction;
       read = read-more _ w c.read_part-count.result 256 _ [] _ was _ _ (omega arith) (ap (λ n. take n (all_within w was)) (sym all) ∙ ap (take w.most) c.seek_first.ensures.same)
           (subst (λ n. IsPart c.args.scan.now.direction w n c.read_part-count.result c.read_part-count.new.part was c.read_part-count.new.scan.left) all part)
-          (omega arith) (c.in_ok-extend_from_slice.ensures.items ∙ ap (λ ts. ts ++ take c.read_part-count.result c.read_part-count.new.part) c.in_ok-timestamps.ensures.empty);
+          (omega arith) (c.in-Ok-extend_from_slice.ensures.items ∙ ap (λ ts. ts ++ take c.read_part-count.result c.read_part-count.new.part) c.in-Ok.ensures.empty);
     }

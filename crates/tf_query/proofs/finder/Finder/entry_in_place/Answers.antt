@@ -8,12 +8,12 @@ use Rattle.std.proofs.lemmas.Option.{slice_get_read}
 use Rattle.tf_query.proofs.Finding.{entry_in_its_place}
 use Rattle.tf_query.proofs.finder.Finder.entry_in_place.Goals as goal
 
-pub returns : goal.returns
-returns g c =
+pub returns-in-Some : goal.returns-in-Some
+returns-in-Some g c =
     let f = c.self.inside in
-    let found = c.in_ok-entry.ensures.lookup in
+    let found = c.in-Some.ensures.lookup in
     let there : slice_get f.entries.now (c.args.timestamp - f.from) ≡ Some (option_copied c.as_ref.result) =
-    slice_get_read f.entries.now (length f.entries.now) (c.args.timestamp - f.from) c.in_ok-entry.entry.now refl found.3.0 found.1
+    slice_get_read f.entries.now (length f.entries.now) (c.args.timestamp - f.from) c.in-Some.entry.now refl found.3.0 found.1
     ∙ ap Some (sym c.as_ref.ensures.value) in
     ap (λ (tables : List (Shown g.row.V.Denot)). entry_of (key_of 0 c.args.timestamp) (lists_of tables)) (sym c.self.view_is)
     ∙ entry_in_its_place c.args.timestamp f.place f.from f.part f.entries.now (option_copied c.as_ref.result) (lists_of f.references.now)

@@ -15,4 +15,4 @@ returns g c =
     let together : zip keys entries ≡ c.rows_from-rows.result = ap (λ es. zip keys (column_of (length keys) es)) (sym c.in-Each.is) ∙ c.runs.ensures.rows.together in
     let paired : length keys ≡ length entries = c.runs.ensures.rows.as_many_keys ∙ sym c.runs.ensures.rows.as_many_entries ∙ ap (λ es. length (column_of (length keys) es)) c.in-Each.is in
     let rows : AreTableRows table keys entries = record { paired = paired; entries_are = subst (AreEntries table) (sym together) all } in
-    (refl, table_rows_left table c.args.direction c.in_ok-_own_key._own_key.now c.in_ok-_own_entry._own_entry.now keys c.in_ok-_own_key.keys.now entries c.in_ok-_own_entry.entries.now rows c.in_ok-_own_key.ensures c.in_ok-_own_entry.ensures)
+    (refl, table_rows_left table c.args.direction c.in-Some._own_key.now c.in-Some-split_first._own_entry.now keys c.in-Some.keys.now entries c.in-Some-split_first.entries.now rows c.in-Some.ensures c.in-Some-split_first.ensures)
