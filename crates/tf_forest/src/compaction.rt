@@ -1,5 +1,5 @@
 //! Sealed tables of a forest that are merged.
-ghost use Rattle.std.specs.Prelude.{◌≡◌, ◌+◌, ◌<◌, ℕ, length, OnOk, OnErr, IfErr, IfOk, IfSome, IfNone, IsSome};
+ghost use Rattle.std.specs.Prelude.{◌≡◌, ◌+◌, ◌<◌, ◌≤◌, ℕ, length, OnOk, OnErr, IfErr, IfOk, IfSome, IfNone, IsSome};
 ghost use Rattle.tf_registry.specs.Install.{IfNoMemory, OnFull, OnStale};
 ghost use Rattle.tf_manifest.specs.Jobs.{InstallsIn, IsPickedFrom, StandsIn, output_of};
 ghost use Rattle.tf_manifest.specs.Kinds.{kind_of};
@@ -23,6 +23,7 @@ impl<F: MutableRows + Drop, A: Allocator + Copy, N: Naming> Forest<Rows<F, A, N>
         ensures some { IfOk result (λ found. IfSome found (IsPickedFrom self.now.sealed.tables row)) }
         ensures none { IfOk result (λ found. IfNone found ((level : ℕ) → count_at level (tables_by self.now.sealed.tables (kind_of row)) < 4)) }
         ensures full { references_in self.now.sealed.tables row ≡ 64 → IfOk result IsSome }
+        ensures err { OnErr result ((level : ℕ) × (4 ≤ count_at level (tables_by self.now.sealed.tables (kind_of row)))) }
     {
         self.rows.published.manifest().pick(row)
     }

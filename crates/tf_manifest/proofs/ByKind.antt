@@ -1,5 +1,5 @@
 -- What is read of a manifest's row, by its kind.
-use Rattle.std.proofs.Common.{◌≡◌, ℕ, ◌<◌, List, [], length, Option, Some, None, IfSome, IfNone, IsSome, ◌∙◌, ap, subst}
+use Rattle.std.proofs.Common.{◌≡◌, ℕ, ◌<◌, ◌≤◌, List, [], length, Option, Some, None, Result, Ok, Err, IfSome, IfNone, IsSome, OnErr, ◌∙◌, ap, subst}
 use Rattle.std.specs.Prelude.{slice_index_or}
 use Rattle.std.specs.Option.{option_map}
 use Rattle.tf_table.specs.declared.key.Key.{Key}
@@ -52,6 +52,14 @@ pub none : (inside view : View) (row : Row) (k : Kind) (at : ℕ) (tables : List
 none inside view row k at tables found v e p t is low =
     of_row (λ V ts. (level : ℕ) → count_at level ts < 4) inside view row k at tables v e p t
     (subst (λ o. IfNone o ((level : ℕ) → count_at level tables < 4)) is low)
+
+-- where a run was refused some level of the row has four tables
+pub busy : {T E : Type 0} (answer : Result T E) (inside view : View) (row : Row) (k : Kind) (at : ℕ) (tables : List (Shown (StoredBy k))) → inside ≡ view → k ≡ kind_of row → at ≡ place_by k → tables ≡ slice_index_or (rows_by inside k) at []
+    → (level : ℕ) × (4 ≤ count_at level tables) → OnErr answer ((level : ℕ) × (4 ≤ count_at level (tables_by view (kind_of row))))
+busy answer inside view row k at tables v e p t many = by_answer answer (of_row (λ V ts. (level : ℕ) × (4 ≤ count_at level ts)) inside view row k at tables v e p t many) where
+  by_answer : {T E P : Type 0} (answer : Result T E) → P → OnErr answer P
+  by_answer (Ok _) p = tt
+  by_answer (Err _) p = p
 
 -- and it isn't full
 pub room : (Q : Type 0) (inside view : View) (row : Row) (k : Kind) (at : ℕ) (tables : List (Shown (StoredBy k))) (found : Option (Run (StoredBy k))) → inside ≡ view → k ≡ kind_of row → at ≡ place_by k → tables ≡ slice_index_or (rows_by inside k) at []

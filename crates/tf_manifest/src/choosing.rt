@@ -1,5 +1,5 @@
 //! Jobs of a manifest's rows: picked, and installed once merged.
-ghost use Rattle.std.specs.Prelude.{◌≡◌, ◌<◌, ℕ, OnOk, OnErr, IfErr, IfOk, IfSome, IfNone, IsSome};
+ghost use Rattle.std.specs.Prelude.{◌≡◌, ◌<◌, ◌≤◌, ℕ, OnOk, OnErr, IfErr, IfOk, IfSome, IfNone, IsSome};
 ghost use Rattle.tf_manifest.specs.Jobs.{Answers, InstallsIn, IsPickedFrom, StandsIn};
 ghost use Rattle.tf_registry.specs.Install.{IfNoMemory, OnFull, OnStale};
 ghost use Rattle.tf_manifest.specs.Install.{AreParts};
@@ -17,12 +17,13 @@ impl<A: Allocator, N: Naming> Manifest<A, N> {
     /// The run of a row to merge next: the two oldest tables of the lowest level that has at least four. None where no
     /// level has four, which a row of 64 tables never is.
     ///
-    /// It looks at each reference of the row once, and takes no memory. An `Err` comes only where one of the two tables has
-    /// 2^63 - 1 owners, which contracts can't see.
+    /// It looks at each reference of the row once, and takes no memory. An `Err` comes only where there is a run of which one
+    /// table has 2^63 - 1 owners, which contracts can't see.
     pub fn pick(&self, row: Row) -> Result<Option<Job<A, N>>, AllocError>
         ensures some { IfOk result (λ found. IfSome found (IsPickedFrom self.now row)) }
         ensures none { IfOk result (λ found. IfNone found ((level : ℕ) → count_at level (tables_by self.now (kind_of row)) < 4)) }
         ensures full { references_in self.now row ≡ 64 → IfOk result IsSome }
+        ensures err { OnErr result ((level : ℕ) × (4 ≤ count_at level (tables_by self.now (kind_of row)))) }
     {
         match row.kind() {
             Kind::Stamp(row) => match self.stamps.row(row.index()).pick()? {

@@ -1,5 +1,5 @@
 //! The choice of the two tables of a row that are merged next.
-ghost use Rattle.std.specs.Prelude.{◌≡◌, ◌+◌, ◌<◌, ◌≤◌, ℕ, length, slice_get, false, IsTrue, IsSome, IfOk, IfSome, IfNone};
+ghost use Rattle.std.specs.Prelude.{◌≡◌, ◌+◌, ◌<◌, ◌≤◌, ℕ, length, slice_get, false, IsTrue, IsSome, IfOk, IfSome, IfNone, OnErr};
 ghost use Rattle.tf_registry.specs.Row.{levels_of};
 ghost use Rattle.tf_registry.specs.Run.{count_at, run_of, IsFourAt, NoFourBefore, NoFour, IsPicked, IsRun, Stands};
 
@@ -27,13 +27,14 @@ impl<V: TableValue, A: Allocator, N: Naming> Tables<V, A, N> {
 
     /// The same run, as a job that owns its two tables with others.
     ///
-    /// It takes no memory. An `Err` comes only where one of the two tables has 2^63 - 1 owners, which contracts can't see: no
-    /// job is given then, and the row is as it was.
+    /// It takes no memory. An `Err` comes only where there is a run of which one table has 2^63 - 1 owners, which contracts
+    /// can't see: no job is given then, and the row is as it was.
     pub fn pick(&self) -> Result<Option<Job<V, A, N>>, AllocError>
         ensures some { IfOk result (λ found. IfSome found (λ job. IsPicked self.now job)) }
         ensures stands { IfOk result (λ found. IfSome found (λ job. Stands self.now job)) }
         ensures none { IfOk result (λ found. IfNone found ((level : ℕ) → count_at level self.now < 4)) }
         ensures full { length self.now ≡ 64 → IfOk result IsSome }
+        ensures err { OnErr result ((level : ℕ) × (4 ≤ count_at level self.now)) }
     {
         let Some((first, second)) = self.next_run() else {
             return Ok(None);

@@ -1,5 +1,5 @@
 //! Sealed tables of a store that are merged, outside the lock between `pick` and `install`.
-ghost use Rattle.std.specs.Prelude.{◌≡◌, ◌+◌, ◌<◌, ℕ, length, OnOk, OnErr, IfErr, IfOk, IfSome, IfNone, IsSome};
+ghost use Rattle.std.specs.Prelude.{◌≡◌, ◌+◌, ◌<◌, ◌≤◌, ℕ, length, OnOk, OnErr, IfErr, IfOk, IfSome, IfNone, IsSome};
 ghost use Rattle.tf_registry.specs.Install.{IfNoMemory, OnFull, OnStale};
 ghost use Rattle.tf_manifest.specs.Jobs.{InstallsIn, IsPickedFrom, StandsIn, output_of};
 ghost use Rattle.tf_manifest.specs.Kinds.{kind_of};
@@ -28,6 +28,7 @@ impl<T: MutableRows + Drop, C: StoredCopies + Drop, A: Allocator + Copy, S: Stor
         ensures some { IfOk result (λ found. IfSome found (IsPickedFrom self.now.forest.sealed.tables row)) }
         ensures none { IfOk result (λ found. IfNone found ((level : ℕ) → count_at level (tables_by self.now.forest.sealed.tables (kind_of row)) < 4)) }
         ensures full { references_in self.now.forest.sealed.tables row ≡ 64 → IfOk result IsSome }
+        ensures err { OnErr result ((level : ℕ) × (4 ≤ count_at level (tables_by self.now.forest.sealed.tables (kind_of row)))) }
     {
         self.forest.pick(row)
     }

@@ -1,8 +1,32 @@
 use Rattle.std.proofs.Common.{refl}
 use Rattle.tf_manifest.specs.declared.jobs.Job.TheVariants as job
 use Rattle.tf_manifest.specs.declared.kind.Kind.TheVariants as kind
-use Rattle.tf_manifest.proofs.ByKind.{chosen, none, room}
+use Rattle.tf_manifest.proofs.ByKind.{busy, chosen, none, room}
 use Rattle.tf_manifest.proofs.manifest.Manifest.pick.Goals as goal
+
+pub returns-in_err-job-in-Stamp-clause-err : goal.returns-in_err-job-in-Stamp-clause-err
+returns-in_err-job-in-Stamp-clause-err g c = busy _ _ c.args.self.now c.args.row (kind.Stamp c.in-Stamp.row) _ _ c.self.view_is c.in-Stamp.ensures c.index.ensures.place c.row.ensures.row c.in_err-job-in-Stamp.ensures.err
+
+pub returns-in_err-job-in-Account-clause-err : goal.returns-in_err-job-in-Account-clause-err
+returns-in_err-job-in-Account-clause-err g c = busy _ _ c.args.self.now c.args.row kind.Account _ _ c.self.view_is c.in-Account.ensures refl c.row-in-Account.ensures.row c.in_err-job-in-Account.ensures.err
+
+pub returns-in_err-job-in-Transfer-clause-err : goal.returns-in_err-job-in-Transfer-clause-err
+returns-in_err-job-in-Transfer-clause-err g c = busy _ _ c.args.self.now c.args.row kind.Transfer _ _ c.self.view_is c.in-Transfer.ensures refl c.row-in-Transfer.ensures.row c.in_err-job-in-Transfer.ensures.err
+
+pub returns-in_err-job-in-Id-clause-err : goal.returns-in_err-job-in-Id-clause-err
+returns-in_err-job-in-Id-clause-err g c = busy _ _ c.args.self.now c.args.row kind.Id _ _ c.self.view_is c.in-Id.ensures refl c.row-in-Id.ensures.row c.in_err-job-in-Id.ensures.err
+
+pub returns-in_err-job-in-Unit-clause-err : goal.returns-in_err-job-in-Unit-clause-err
+returns-in_err-job-in-Unit-clause-err g c = busy _ _ c.args.self.now c.args.row (kind.Unit c.in-Unit.row) _ _ c.self.view_is c.in-Unit.ensures c.index-in-Unit.ensures.place c.row-in-Unit.ensures.row c.in_err-job-in-Unit.ensures.err
+
+pub returns-in_err-job-in-State-clause-err : goal.returns-in_err-job-in-State-clause-err
+returns-in_err-job-in-State-clause-err g c = busy _ _ c.args.self.now c.args.row kind.State _ _ c.self.view_is c.in-State.ensures refl c.row-in-State.ensures.row c.in_err-job-in-State.ensures.err
+
+pub returns-in_err-job-in-Sums-clause-err : goal.returns-in_err-job-in-Sums-clause-err
+returns-in_err-job-in-Sums-clause-err g c = busy _ _ c.args.self.now c.args.row kind.Sums _ _ c.self.view_is c.in-Sums.ensures refl c.row-in-Sums.ensures.row c.in_err-job-in-Sums.ensures.err
+
+pub returns-in_err-job-in-Status-clause-err : goal.returns-in_err-job-in-Status-clause-err
+returns-in_err-job-in-Status-clause-err g c = busy _ _ c.args.self.now c.args.row kind.Status _ _ c.self.view_is c.in-Status.ensures refl c.row-in-Status.ensures.row c.in_err-job-in-Status.ensures.err
 
 pub returns-in-None-clause-none : goal.returns-in-None-clause-none
 returns-in-None-clause-none g c = none _ c.args.self.now c.args.row (kind.Stamp c.in-Stamp.row) _ _ c.in_ok-job-in-Stamp.field-0 c.self.view_is c.in-Stamp.ensures c.index.ensures.place c.row.ensures.row c.in-None.is c.in_ok-job-in-Stamp.ensures.none
