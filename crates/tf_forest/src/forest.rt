@@ -103,8 +103,9 @@ impl<S: AllRows + Drop, A: Allocator + Copy> Forest<S, A> {
     }
 
     /// What always holds of the journal: it is sound and within limits, what is kept of it is there, and none of that is
-    /// younger than the clock; that what the mutable tables have is what they have at the present mark, the only one where all is kept; and how many tables a publish
-    /// needs, and how many entries it seals, by what the mutable tables have. It does nothing.
+    /// younger than the clock; that what the mutable tables have is what they have at the present mark, the only one where
+    /// all is kept; and how many tables a publish needs, and how many entries it seals, by what the mutable tables have. It
+    /// does nothing.
     pub fn facts(&self)
         ensures sound { IsSound self.now.journal }
         ensures limits { IsWithinLimits self.now.journal }

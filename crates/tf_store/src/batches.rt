@@ -52,9 +52,10 @@ impl<R: AllRows + Drop, C: StoredCopies + Drop, A: Allocator + Copy, S: StoreNam
     /// Stores a batch of accounts, as `run_accounts` does, and lets its receipt wait for the next publish. The share grows
     /// by the number of accounts stored.
     ///
-    /// Times are nanoseconds. `BatchTooLarge`: more than `BATCH_MAX` events; then `ClockExhausted`; both before any memory is
-    /// taken; then `NoMemory`. A refusal leaves all as it was, each mutable table entry by entry. Takes a verdict and a few look-ups in rows for each event, and
-    /// memory for a copy of the events and of the reply beside the entries. As `create_accounts` of TigerBeetle's reference.
+    /// Times are nanoseconds. `BatchTooLarge`: more than `BATCH_MAX` events; then `ClockExhausted`; both before any memory
+    /// is taken; then `NoMemory`. A refusal leaves all as it was, each mutable table entry by entry. Takes a verdict and a
+    /// few look-ups in rows for each event, and memory for a copy of the events and of the reply beside the entries. As
+    /// `create_accounts` of TigerBeetle's reference.
     pub fn create_accounts(
         &mut self,
         events: &[Account],
@@ -129,8 +130,8 @@ impl<R: AllRows + Drop, C: StoredCopies + Drop, A: Allocator + Copy, S: StoreNam
     /// a ledger does. The share grows by that number. It leaves no receipt.
     ///
     /// Times are nanoseconds. `ClockExhausted` where the clock has no timestamps left for them, before any memory is taken;
-    /// then `NoMemory`. A refusal leaves all as it was, each mutable table entry by entry. Takes a search in the expiry index and a few look-ups in rows for
-    /// each.
+    /// then `NoMemory`. A refusal leaves all as it was, each mutable table entry by entry. Takes a search in the expiry
+    /// index and a few look-ups in rows for each.
     pub fn pulse(&mut self, now: u64, max: u32, share: &mut Share<S>) -> Result<u32, Refusal>
         ensures run { IsPulseRun (λ f. f.journal) (λ f. f.clock) (λ f. f.kept) self.old.forest self.new.forest now max result }
         ensures sealed { self.new.forest.sealed ≡ self.old.forest.sealed }

@@ -34,9 +34,9 @@ impl<T: MutableRows + Drop, C: StoredCopies + Drop, A: Allocator + Copy, S: Stor
     }
 
     /// Puts a merged table in the place of its run, whatever was stored, published and installed since the run was picked:
-    /// `Stale` exactly where the run no longer stands in its row; else `RegistryFull` exactly where the tables pushed are at
-    /// their limit; else only `NoMemory`, which hands the table back. A refusal leaves all as it was, and what mutable tables have stays in any case. It
-    /// may wait in the push.
+    /// `Stale` exactly where the run no longer stands in its row; else `RegistryFull` exactly where the tables pushed are
+    /// at their limit; else only `NoMemory`, which hands the table back. A refusal leaves all as it was, and what mutable
+    /// tables have stays in any case. It may wait in the push.
     ///
     /// Readers see the table from the next publish on that has something to show. Takes a walk over the row's references.
     pub fn install<R: Wait>(

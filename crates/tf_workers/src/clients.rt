@@ -45,8 +45,8 @@ where
 ///
 /// The share, which is of the store in the lock, grows by what is stored. The client gives it and the seat back at every end. A
 /// batch, a pulse or a publish that is refused otherwise than for want of memory is passed over, as is a batch of more than
-/// `BATCH_MAX` events. It ends early only for want of memory. Receipts are dropped. It may wait for the lock, in pushes, for readers
-/// and in the queue.
+/// `BATCH_MAX` events. It ends early only for want of memory. Receipts are dropped. It may wait for the lock, in pushes,
+/// for readers and in the queue.
 pub fn client<'a, T, C, S, R, G>(
     rt: &'a R,
     alloc: Global,

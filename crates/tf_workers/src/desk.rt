@@ -12,8 +12,8 @@ use tf_query::Version;
 use tf_rows::{MutableRows, SealRows};
 use tf_store::{Share, StoreName, StoredCopies, VersionCopies};
 
-/// What clients and compactors do, each at one call. What runs them knows a store by this alone: closures over its own type are past
-/// the limit of steps of their check.
+/// What clients and compactors do, each at one call. What runs them knows a store by this alone: closures over its own type
+/// are past the limit of steps of their check.
 pub(crate) trait Critical<H: Drop, J: Drop> {
     /// One critical section of a client, for a piece of its work, if there is one.
     fn section(&self, work: Option<&Work>, share: H) -> Section<H, J>;

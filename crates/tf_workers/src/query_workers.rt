@@ -130,8 +130,8 @@ pub(crate) fn answer_of_list<Q: VersionReader + Drop>(
 
 /// Asks a reader one thing after another, each of the version that was published last, and counts the rows of the answers.
 ///
-/// What there is no version for is passed over, as is a look-up of more than `BATCH_MAX` ids. It ends early only for want of memory.
-/// It takes no lock and waits for nobody.
+/// What there is no version for is passed over, as is a look-up of more than `BATCH_MAX` ids. It ends early only for want
+/// of memory. It takes no lock and waits for nobody.
 pub fn query_worker<Q, G>(alloc: Global, reader: Q, asks: &[Ask], worker: u32, gate: &G) -> Counted
 where
     Q: VersionReader + Drop,

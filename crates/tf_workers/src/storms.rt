@@ -34,7 +34,8 @@ fn piece(scripts: &[Vec<Work>], worker: u32, number: usize) -> Option<&Work> {
     scripts.get(worker as usize)?.as_slice().get(number)
 }
 
-/// Runs all workers, of which query workers ask readers, and gives the clients' shares back. What clients and compactors do is given.
+/// Runs all workers, of which query workers ask readers, and gives the clients' shares back. What clients and compactors do
+/// is given.
 fn run_asking<H, J, Q, D, R, G>(
     rt: &R,
     lists: Global,
@@ -179,13 +180,14 @@ where
 /// Runs a client for each script over a store, with a query worker for each reader and two compactors beside them, each in a thread
 /// of its own, and joins them all: the clients first, then, once the queue is closed, the compactors, and the query workers.
 ///
-/// Query worker `i` asks `asks[i]`. Clients are workers 0 to `n - 1`, query workers the next ones, as many as there are lists of
-/// what to ask, and compactors the last two. Gives the store back, what was counted, and what each worker did: clients, compactors and
-/// query workers, each kind by rising number. The shares of all clients, those that ended early too, are together what is stored. `shares` have to be all that the store gave. Lists of what threads share lie in
+/// Query worker `i` asks `asks[i]`. Clients are workers 0 to `n - 1`, query workers the next ones, as many as there are
+/// lists of what to ask, and compactors the last two. Gives the store back, what was counted, and what each worker did:
+/// clients, compactors and query workers, each kind by rising number. The shares of all clients, those that ended early
+/// too, are together what is stored. `shares` have to be all that the store gave. Lists of what threads share lie in
 /// `lists`, what the store takes in `alloc`.
 ///
-/// `NoMemory` where no client was started, and `NoThread` where a thread couldn't be made: all that were started are joined then, and
-/// the store is dropped. It may wait.
+/// `NoMemory` where no client was started, and `NoThread` where a thread couldn't be made: all that were started are joined
+/// then, and the store is dropped. It may wait.
 pub fn storm<T, C, S, Q, R, G>(
     rt: &R,
     lists: Global,
