@@ -1,12 +1,12 @@
 //! Tests: storms, and workers in turn.
 ghost use Rattle.std.specs.Prelude.{◌≡◌, ◌<◌, ◌≤◌, vec_len};
 
-use crate::opening::try_out;
 use std::marker::Sync;
 use std::process::Abort;
 use std::sync::Wait;
 use std::test::Fail;
 use std::thread::Threads;
+use tf_storm_trials::try_out;
 use tf_trials::{Dice, that_meet, transfers_between_two};
 use tf_worker_trials::{Meetings, Tasks, Trial, Tried, Turns, one_client, random_tasks, storm_of};
 use tf_workers::{Reckoning, Totals};
