@@ -1,4 +1,1 @@
 mod Ending
-mod Needed
-mod Serving
-mod Views

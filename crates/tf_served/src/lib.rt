@@ -3,8 +3,6 @@
 //! [`run_script`] makes registries and a store with one share, and runs a script's commands by it.
 #![tactic(auto)]
 
-mod run;
 mod script;
-mod served;
 
 pub use script::run_script;

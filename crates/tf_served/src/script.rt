@@ -7,7 +7,6 @@ ghost use Rattle.tf_served.specs.Rooms.{IsReference};
 ghost use Rattle.tf_served.specs.Served.{StopsServing};
 ghost use Rattle.tf_store.specs.Rooms.{FitsRows};
 
-use crate::served::Served;
 use std::alloc::Allocator;
 use std::io::Write;
 use std::marker::Brand;
@@ -20,6 +19,7 @@ use tf_readers::{Copies, Publishable};
 use tf_records::Refusal;
 use tf_rows::{EmptyRows, SealRows};
 use tf_script::Command;
+use tf_serving::Served;
 use tf_store::{BlankStore, Share, Store, StoreName, StoreOf, VersionCopies, VersionOf};
 
 /// Runs a script over an empty store and writes what its commands print. The whole script is read before any of it is run.

@@ -1,8 +1,0 @@
-use Rattle.tf_served.proofs.Serving.{read_of_take}
-use Rattle.tf_served.proofs.served.Served+Forest+Rows+T+A+S+A+A+S+C+W.version.Goals as goal
-
-pub returns-clause-version : goal.returns-clause-version
-returns-clause-version g c = c.take_version.ensures.version
-
-pub returns-clause-read : goal.returns-clause-read
-returns-clause-read g c = read_of_take _ _ _ c.facts.ensures.bounded c.facts.ensures.few c.facts.ensures.roomy c.take_version.ensures.publish

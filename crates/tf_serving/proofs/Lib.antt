@@ -1,0 +1,3 @@
+mod Needed
+mod Serving
+mod Views
