@@ -28,7 +28,7 @@ mod worked;
 pub use alike::are_commands_alike;
 pub use asking::{Outcome, Rows, ask_plain, is_same_outcome};
 pub use ledgers::run;
-pub use many::{Taken, all_taken, take_for_many};
+pub use many::{AtOnce, Taken, all_taken, take_for_queries};
 pub use refused::{AMPLE, refused_in_turn};
 pub use scripts::{commands_at, lists_of_commands};
 pub use trial::{Course, Trial, try_out};

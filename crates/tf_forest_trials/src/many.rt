@@ -1,13 +1,15 @@
-//! A version of which many queries are asked at once.
+//! A version of which several queries are asked at once.
 
 use crate::calls::does;
 use crate::publishing::run_list;
 use crate::questions::any_query;
+use crate::refusals::queries_of_scripts;
+use crate::scripts::commands_at;
 use crate::tried::{Act, Tried};
 use std::alloc::Global;
 use tf_journal::PlainLedger;
 use tf_records::Refusal;
-use tf_script::Query;
+use tf_script::{Command, Query};
 use tf_trials::random::commands;
 use tf_trials::{Dice, Plain};
 
@@ -25,18 +27,36 @@ fn queries(
     Ok(queries)
 }
 
-/// Runs a random journal, takes a version, and gives 5,000 random queries of it. It is stale where a forest answers otherwise
-/// than the plain ledger.
-pub fn take_for_many<F: Tried>(
+/// What is asked at once.
+#[derive(Clone, Copy)]
+pub enum AtOnce {
+    /// 5,000 random queries of a random journal.
+    Many,
+    /// Each kind of query once, of a worked script's journal, by its place.
+    Script(usize),
+}
+
+/// The commands of the journal.
+fn journal(alloc: Global, asked: AtOnce) -> Result<Vec<Command<Global>, Global>, Refusal> {
+    match asked {
+        AtOnce::Many => commands(alloc, 4096, 60),
+        AtOnce::Script(place) => commands_at(alloc, place),
+    }
+}
+
+/// Runs a journal, takes a version, and gives queries of it. It is stale where a forest answers otherwise than the plain ledger.
+pub fn take_for_queries<F: Tried>(
     alloc: Global,
     plain: &mut Plain,
     forest: &mut F,
+    asked: AtOnce,
 ) -> Result<Vec<Query, Global>, Refusal> {
-    let journal = commands(alloc, 4096, 60);
-    if run_list(alloc, plain, forest, journal)? && does(forest, Act::Take) {
-        queries(alloc, plain.ledger(), 5000)
-    } else {
-        Err(Refusal::Stale)
+    if !(run_list(alloc, plain, forest, journal(alloc, asked))? && does(forest, Act::Take)) {
+        return Err(Refusal::Stale);
+    }
+    match asked {
+        AtOnce::Many => queries(alloc, plain.ledger(), 5000),
+        AtOnce::Script(_) => queries_of_scripts(alloc),
     }
 }
 

@@ -1,6 +1,6 @@
 //! Requests for memory that are refused to queries and look-ups, each in turn.
 
-use crate::asking::{Outcome, ask_plain, count_of};
+use crate::asking::{Outcome, answer_of, ask_plain, count_of};
 use crate::calls::{ask, ask_on, does};
 use crate::publishing::run_list;
 use crate::refused::AMPLE;
@@ -8,7 +8,7 @@ use crate::tried::{Act, Asked, Tried};
 use linked_list_allocator::LocalHeap;
 use std::alloc::{AllocError, Global};
 use tf_records::Refusal;
-use tf_script::{Command, parse};
+use tf_script::{Command, Query, parse};
 use tf_trials::random::commands;
 use tf_trials::{Plain, take_all_but};
 
@@ -34,6 +34,15 @@ const INVALID: &str = "\
      get_account_balances account_id=3 user_data_32=7 code=1 flags=debits|credits|reversed\n\
      query_accounts user_data_32=3 ledger=1 code=10\n\
      query_transfers user_data_32=7 ledger=1 code=1\n";
+
+/// Each query and look-up of what worked scripts store, some of which find nothing there.
+const OF_SCRIPTS: &str = "\
+     get_account_transfers account_id=1 code=1 limit=20 flags=debits|credits|reversed\n\
+     get_account_balances account_id=1 limit=20 flags=debits|credits\n\
+     query_accounts ledger=700 code=10 limit=20\n\
+     query_transfers ledger=700 code=1 limit=20\n\
+     lookup_accounts 1 2 9 2\n\
+     lookup_transfers 5 13 41 42 43 46 50 52\n";
 
 /// So many ids, from 1 to 6.
 fn ids(alloc: Global, count: u32) -> Result<Vec<u128, Global>, AllocError> {
@@ -210,4 +219,55 @@ pub fn are_refusals_right<F: Tried>(
             && is_text_right(alloc, plain, forest, INVALID, false)
             && are_long_right(alloc, plain, forest),
     )
+}
+
+/// The queries among those.
+pub fn queries_of_scripts(alloc: Global) -> Result<Vec<Query, Global>, Refusal> {
+    let commands = parse(alloc, OF_SCRIPTS.as_bytes())?;
+    let mut queries = Vec::new(alloc);
+    for command in &commands {
+        if let Command::Query(query) = command {
+            queries.push(*query)?;
+        }
+    }
+    Ok(queries)
+}
+
+/// Whether a query or a look-up is answered as the plain ledger does and, where it finds something, is refused in turn.
+fn is_right_or_empty<F: Tried>(
+    alloc: Global,
+    plain: &Plain,
+    forest: &mut F,
+    question: &Command<Global>,
+) -> bool {
+    let tally = answer_of(alloc, forest, 0, plain, question);
+    tally.is_right && (tally.rows == 0 || is_right(alloc, plain, forest, question, STEP, true))
+}
+
+/// The same with several.
+fn are_right_or_empty<F: Tried>(
+    alloc: Global,
+    plain: &Plain,
+    forest: &mut F,
+    questions: &[Command<Global>],
+) -> bool {
+    for question in questions {
+        if !is_right_or_empty(alloc, plain, forest, question) {
+            return false;
+        }
+    }
+    true
+}
+
+/// Whether a version of a worked script's journal answers as before when it is refused memory in turn for each query and look-up.
+pub fn are_script_refusals_right<F: Tried>(
+    alloc: Global,
+    plain: &Plain,
+    forest: &mut F,
+) -> Result<bool, Refusal> {
+    let questions = parse(alloc, OF_SCRIPTS.as_bytes())?;
+    let are_right = does(forest, Act::Take)
+        && are_right_or_empty(alloc, plain, forest, questions.as_slice());
+    drop(questions);
+    Ok(are_right)
 }

@@ -1,8 +1,9 @@
 //! Worked scripts and random commands, which a forest answers, and queries and look-ups of scripts, which versions answer.
 
 use crate::publishing::run_list;
+use crate::refusals::are_script_refusals_right;
 use crate::tried::Tried;
-use crate::worked::{script_at, scripts};
+use crate::worked::{REFUSED_IN_TURN, script_at, scripts};
 use std::alloc::Global;
 use tf_records::Refusal;
 use tf_script::{Command, parse};
@@ -22,15 +23,22 @@ pub fn commands_at(alloc: Global, place: usize) -> Result<Vec<Command<Global>, G
     }
 }
 
-/// Whether a version answers each query and look-up of the script at a place as the plain ledger does.
+/// Whether versions answer each query and look-up of the script at a place as the plain ledger does. Of the first ones a version of
+/// the whole journal is refused memory in turn.
 pub fn is_script_answered<F: Tried>(
     alloc: Global,
     plain: &mut Plain,
     forest: &mut F,
     place: usize,
 ) -> Result<bool, Refusal> {
-    match script_at(place) {
-        Some(script) => run_list(alloc, plain, forest, parse(alloc, script.as_bytes())),
-        None => Ok(false),
+    let Some(script) = script_at(place) else {
+        return Ok(false);
+    };
+    if !run_list(alloc, plain, forest, parse(alloc, script.as_bytes()))? {
+        return Ok(false);
     }
+    if place < REFUSED_IN_TURN {
+        return are_script_refusals_right(alloc, plain, forest);
+    }
+    Ok(true)
 }

@@ -2,6 +2,73 @@
 
 /// All of them, with `%` between two.
 const WORKED: &str = concat!(
+    // Those whose versions are refused memory in turn.
+
+    // linked-chain-fails-whole
+    "# One failing event of a chain fails the whole chain; the event after the chain stands.\n\
+     accounts 1000\n\
+     + id=1 ledger=700 code=10 flags=debits_must_not_exceed_credits\n\
+     + id=2 ledger=700 code=10\n\
+     end\n\
+     transfers 0\n\
+     + id=10 debit_account_id=2 credit_account_id=1 amount=50 ledger=700 code=1 flags=linked\n\
+     + id=11 debit_account_id=1 credit_account_id=2 amount=20 ledger=700 code=1 flags=linked\n\
+     + id=12 debit_account_id=1 credit_account_id=2 amount=31 ledger=700 code=1\n\
+     + id=13 debit_account_id=2 credit_account_id=1 amount=7 ledger=700 code=1\n\
+     end\n\
+     query_transfers ledger=700 limit=10\n%",
+    // expiry-order-of-equal-moments
+    "# Two pending transfers that expire at the same moment expire one by one, the older first.\n\
+     accounts 1000\n\
+     + id=1 ledger=700 code=10\n\
+     + id=2 ledger=700 code=10\n\
+     end\n\
+     transfers 0\n\
+     + id=41 debit_account_id=1 credit_account_id=2 amount=1 ledger=700 code=1 flags=pending timeout=2\n\
+     end\n\
+     transfers 1000001002\n\
+     + id=42 debit_account_id=1 credit_account_id=2 amount=1 ledger=700 code=1 flags=pending timeout=1\n\
+     end\n\
+     pulse 2000001003 1\n\
+     pulse 0 1\n\
+     pulse 0 1\n%",
+    // pulse-expires-two-of-four
+    "# A pulse expires those two of four pending transfers whose moment has come.\n\
+     accounts 1000\n\
+     + id=1 ledger=700 code=10\n\
+     + id=2 ledger=700 code=10\n\
+     end\n\
+     transfers 0\n\
+     + id=43 debit_account_id=1 credit_account_id=2 amount=10 ledger=700 code=1 flags=pending timeout=1\n\
+     end\n\
+     transfers 0\n\
+     + id=44 debit_account_id=1 credit_account_id=2 amount=10 ledger=700 code=1 flags=pending timeout=1\n\
+     end\n\
+     transfers 0\n\
+     + id=45 debit_account_id=1 credit_account_id=2 amount=10 ledger=700 code=1 flags=pending timeout=1\n\
+     end\n\
+     transfers 0\n\
+     + id=46 debit_account_id=1 credit_account_id=2 amount=10 ledger=700 code=1 flags=pending timeout=1\n\
+     end\n\
+     pulse 1000001004 10\n\
+     lookup_accounts 1\n%",
+    // history-balances-around-expiry
+    "# An account with history shows its sums after each transfer; an expiry has no row, the next row shows its effect.\n\
+     accounts 1000\n\
+     + id=1 ledger=700 code=10 flags=history\n\
+     + id=2 ledger=700 code=10\n\
+     end\n\
+     transfers 0\n\
+     + id=50 debit_account_id=1 credit_account_id=2 amount=10 ledger=700 code=1 flags=pending timeout=1\n\
+     + id=51 debit_account_id=1 credit_account_id=2 amount=20 ledger=700 code=1 flags=pending\n\
+     end\n\
+     pulse 1000001003 10\n\
+     transfers 0\n\
+     + id=52 pending_id=51 flags=post_pending_transfer amount=max\n\
+     end\n\
+     get_account_balances account_id=1 limit=10 flags=debits|credits\n\
+     get_account_balances account_id=2 limit=10 flags=debits|credits\n%",
+
     // Batches, chains and ids.
 
     // batch-without-events
@@ -59,19 +126,6 @@ const WORKED: &str = concat!(
      accounts 0\n\
      + id=1 ledger=700 code=10\n\
      end\n%",
-    // linked-chain-fails-whole
-    "# One failing event of a chain fails the whole chain; the event after the chain stands.\n\
-     accounts 1000\n\
-     + id=1 ledger=700 code=10 flags=debits_must_not_exceed_credits\n\
-     + id=2 ledger=700 code=10\n\
-     end\n\
-     transfers 0\n\
-     + id=10 debit_account_id=2 credit_account_id=1 amount=50 ledger=700 code=1 flags=linked\n\
-     + id=11 debit_account_id=1 credit_account_id=2 amount=20 ledger=700 code=1 flags=linked\n\
-     + id=12 debit_account_id=1 credit_account_id=2 amount=31 ledger=700 code=1\n\
-     + id=13 debit_account_id=2 credit_account_id=1 amount=7 ledger=700 code=1\n\
-     end\n\
-     query_transfers ledger=700 limit=10\n%",
     // open-chain
     "# A batch that ends inside a chain stores none of it; an earlier fault of the chain keeps its own result.\n\
      accounts 1000\n\
@@ -206,21 +260,6 @@ const WORKED: &str = concat!(
      lookup_accounts 1\n\
      pulse 0 10\n\
      lookup_accounts 1\n%",
-    // expiry-order-of-equal-moments
-    "# Two pending transfers that expire at the same moment expire one by one, the older first.\n\
-     accounts 1000\n\
-     + id=1 ledger=700 code=10\n\
-     + id=2 ledger=700 code=10\n\
-     end\n\
-     transfers 0\n\
-     + id=41 debit_account_id=1 credit_account_id=2 amount=1 ledger=700 code=1 flags=pending timeout=2\n\
-     end\n\
-     transfers 1000001002\n\
-     + id=42 debit_account_id=1 credit_account_id=2 amount=1 ledger=700 code=1 flags=pending timeout=1\n\
-     end\n\
-     pulse 2000001003 1\n\
-     pulse 0 1\n\
-     pulse 0 1\n%",
     // expiry-order-of-equal-moments-shown
     "# As expiry-order-of-equal-moments with amounts 1 and 2, so that the sums show which one expired first.\n\
      accounts 1000\n\
@@ -343,22 +382,6 @@ const WORKED: &str = concat!(
      end\n\
      lookup_accounts 2 9 2\n\
      query_accounts ledger=700 limit=10\n%",
-    // history-balances-around-expiry
-    "# An account with history shows its sums after each transfer; an expiry has no row, the next row shows its effect.\n\
-     accounts 1000\n\
-     + id=1 ledger=700 code=10 flags=history\n\
-     + id=2 ledger=700 code=10\n\
-     end\n\
-     transfers 0\n\
-     + id=50 debit_account_id=1 credit_account_id=2 amount=10 ledger=700 code=1 flags=pending timeout=1\n\
-     + id=51 debit_account_id=1 credit_account_id=2 amount=20 ledger=700 code=1 flags=pending\n\
-     end\n\
-     pulse 1000001003 10\n\
-     transfers 0\n\
-     + id=52 pending_id=51 flags=post_pending_transfer amount=max\n\
-     end\n\
-     get_account_balances account_id=1 limit=10 flags=debits|credits\n\
-     get_account_balances account_id=2 limit=10 flags=debits|credits\n%",
     // raw-query-filter
     "# A filter given as raw bytes answers as its fields do; with one reserved byte set its answer is empty.\n\
      accounts 1000\n\
@@ -622,6 +645,9 @@ const WORKED: &str = concat!(
      end\n\
      lookup_accounts 1\n"
 );
+
+/// How many of them, the first, have a version that is refused memory in turn.
+pub const REFUSED_IN_TURN: usize = 4;
 
 /// The script at a place.
 pub fn script_at(place: usize) -> Option<&'static str> {

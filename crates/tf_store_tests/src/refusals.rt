@@ -1,6 +1,8 @@
 //! Requests for memory that are refused.
 
 use crate::texts::assert_text;
+use std::process::Abort;
+use std::sync::Wait;
 use tf_text_trials::Fixture;
 
 /// Nothing, which a store without memory isn't there for.
@@ -70,6 +72,13 @@ fn each_request_of_a_batch_is_refused_in_turn(rt: HostRuntime) {
     }
 }
 
+/// A text whose calls have 720 bytes more where they are refused holds with each first room, 16 bytes apart.
+fn assert_each<R: Abort + AllocGlobal + Wait>(rt: &R, text: &str) {
+    for start in 0..45 {
+        assert_text(rt, Fixture::with_parameter(start * 16), text);
+    }
+}
+
 /// The same of a publish, with 720 bytes more.
 const EACH_OF_PUBLISHES: &str = "\
 ids 10
@@ -79,18 +88,17 @@ take | ask taken 0 now: 10";
 
 #[test]
 fn each_request_of_a_publish_is_refused_in_turn(rt: HostRuntime) {
-    for start in 0..45 {
-        assert_text(&rt, Fixture::with_parameter(start * 16), EACH_OF_PUBLISHES);
-    }
+    assert_each(&rt, EACH_OF_PUBLISHES);
 }
 
-/// A run of each row is merged with `M` bytes, done or refused, which changes nothing; then it is merged with ample memory.
+/// A run of each row is merged and installed, each with `M` bytes at first and 720 more where it is refused.
 const EACH_OF_MERGES: &str = "\
 ids 10
 accounts | round 0 | publish: 3
 repeat 1 4 round N | publish: 2
-repeat 0 21 note | fill M | merge N: any | free | same | merge N | install
-take | ask taken 0 now: 10";
+grow 720 M
+repeat 0 21 merge N | install
+grow | take | ask taken 0 now: 10";
 
 /// Runs of all rows are merged with 4 KB each, and none with no byte.
 const MERGED_IN_LITTLE: &str = "\
@@ -99,11 +107,92 @@ repeat 1 4 round N | publish: 2
 repeat 0 21 fill 0 | merge N: no_memory | free | fill 4096 | merge N | free";
 
 #[test]
-fn each_request_of_a_merge_is_refused_in_turn(rt: HostRuntime) {
-    for size in 0..256 {
-        assert_text(&rt, Fixture::with_parameter(size * 16), EACH_OF_MERGES);
-    }
+fn each_request_of_a_merge_and_an_install_is_refused_in_turn(rt: HostRuntime) {
+    assert_each(&rt, EACH_OF_MERGES);
     assert_text(&rt, Fixture::USUAL, MERGED_IN_LITTLE);
+}
+
+/// A chain under a limit fails, and the event behind it is stored. Each call has `M` bytes at first and 720 more where it is refused,
+/// here and in the three below.
+const CHAIN_UNDER_A_LIMIT: &str = "\
+grow 720 M
+run accounts 1000; + id=1 ledger=700 code=10 flags=debits_must_not_exceed_credits; + id=2 ledger=700 code=10; end
+publish: 1
+run transfers 0; \
++ id=10 debit_account_id=2 credit_account_id=1 amount=50 ledger=700 code=1 flags=linked; \
++ id=11 debit_account_id=1 credit_account_id=2 amount=20 ledger=700 code=1 flags=linked; \
++ id=12 debit_account_id=1 credit_account_id=2 amount=31 ledger=700 code=1; \
++ id=13 debit_account_id=2 credit_account_id=1 amount=7 ledger=700 code=1; end
+count book: 3 | count clock: 1006
+publish: 1 | take
+grow | ask taken 0 now: 1";
+
+#[test]
+fn each_request_for_a_chain_under_a_limit_is_refused_in_turn(rt: HostRuntime) {
+    assert_each(&rt, CHAIN_UNDER_A_LIMIT);
+}
+
+/// Two transfers that expire at the same moment, one a pulse.
+const SAME_EXPIRY: &str = "\
+grow 720 M
+run accounts 1000; + id=1 ledger=700 code=10; + id=2 ledger=700 code=10; end
+publish: 1
+run transfers 0; + id=41 debit_account_id=1 credit_account_id=2 amount=1 ledger=700 code=1 flags=pending timeout=2; end
+run transfers 1000001002; \
++ id=42 debit_account_id=1 credit_account_id=2 amount=1 ledger=700 code=1 flags=pending timeout=1; end
+run pulse 2000001003 1 | count clock: 2000001004
+publish: 2
+run pulse 0 1 | count clock: 2000001005
+run pulse 0 1 | count clock: 2000001005
+publish: 0 | take
+grow | ask taken 0 now: 1";
+
+#[test]
+fn each_request_for_expiries_of_one_moment_is_refused_in_turn(rt: HostRuntime) {
+    assert_each(&rt, SAME_EXPIRY);
+}
+
+/// Four tables of the row of expiries are merged, and installed once two transfers have expired and that was published.
+const MERGED_EXPIRIES: &str = "\
+grow 720 M
+run accounts 1000; + id=1 ledger=700 code=10; + id=2 ledger=700 code=10; end
+publish: 1
+run transfers 0; + id=43 debit_account_id=1 credit_account_id=2 amount=10 ledger=700 code=1 flags=pending timeout=1; end
+publish: 1
+run transfers 0; + id=44 debit_account_id=1 credit_account_id=2 amount=10 ledger=700 code=1 flags=pending timeout=1; end
+publish: 1
+run transfers 0; + id=45 debit_account_id=1 credit_account_id=2 amount=10 ledger=700 code=1 flags=pending timeout=1; end
+publish: 1
+run transfers 0; + id=46 debit_account_id=1 credit_account_id=2 amount=10 ledger=700 code=1 flags=pending timeout=1; end
+publish: 1 | merge 18
+run pulse 1000001004 10 | count clock: 1000001006
+publish: 0 | install | take
+grow | ask taken 0 now: 1";
+
+#[test]
+fn each_request_for_a_merge_across_a_pulse_is_refused_in_turn(rt: HostRuntime) {
+    assert_each(&rt, MERGED_EXPIRIES);
+}
+
+/// Balances of an account with history, of which one pending transfer expires and the other is posted.
+const HISTORY: &str = "\
+grow 720 M
+run accounts 1000; + id=1 ledger=700 code=10 flags=history; + id=2 ledger=700 code=10; end
+publish: 1
+run transfers 0; \
++ id=50 debit_account_id=1 credit_account_id=2 amount=10 ledger=700 code=1 flags=pending timeout=1; \
++ id=51 debit_account_id=1 credit_account_id=2 amount=20 ledger=700 code=1 flags=pending; end
+publish: 1
+run pulse 1000001003 10 | count clock: 1000001004
+run transfers 0; \
++ id=52 pending_id=51 amount=max flags=post_pending_transfer; end
+count clock: 1000001005
+publish: 1 | take
+grow | ask taken 0 now: 1";
+
+#[test]
+fn each_request_for_balances_is_refused_in_turn(rt: HostRuntime) {
+    assert_each(&rt, HISTORY);
 }
 
 /// Calls with so many bytes left of the heap, whatever is refused.

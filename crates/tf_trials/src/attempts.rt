@@ -18,8 +18,8 @@ pub enum Attempt<'a> {
     Run(&'a Command<Global>),
     /// A publish, of which a reader may learn.
     Publish(Option<usize>),
-    /// A version is taken.
-    Take,
+    /// A version is taken, or a run is merged or installed.
+    Act(Act),
 }
 
 /// Makes a call, again with more and more room where it is refused memory and the trial says so. After each refusal all is as
@@ -71,7 +71,7 @@ fn answered<F: Tried>(
     match attempt {
         Attempt::Run(command) => has_run(store, twin, command, word),
         Attempt::Publish(learner) => Ok(has_published(store, twin, learner, word)),
-        Attempt::Take => Ok(has_taken(store, word)),
+        Attempt::Act(asked) => Ok(has_acted(store, asked, word)),
     }
 }
 
@@ -121,9 +121,9 @@ pub fn has_published<F: Tried>(
     }
 }
 
-/// The same of a version that is taken.
-pub fn has_taken<F: Tried>(store: &mut F, word: &str) -> Option<bool> {
-    let acted = act(store, Act::Take);
+/// The same of what is done with versions or merges.
+pub fn has_acted<F: Tried>(store: &mut F, asked: Act, word: &str) -> Option<bool> {
+    let acted = act(store, asked);
     if is_short(acted) {
         None
     } else {
@@ -131,7 +131,7 @@ pub fn has_taken<F: Tried>(store: &mut F, word: &str) -> Option<bool> {
     }
 }
 
-/// Whether a call that was refused memory has left all as it was, but for tables that a publish pushed.
+/// Whether a call that was refused memory has left all as it was, but for tables that were pushed for what is published.
 pub fn is_as_before<F: Tried>(
     store: &mut F,
     twin: &Twin,
@@ -140,8 +140,8 @@ pub fn is_as_before<F: Tried>(
 ) -> bool {
     let counted = count(store, twin);
     let is_same = match attempt {
-        Attempt::Run(_) => counted == *before,
-        _ => has_only_pushed(&counted, before),
+        Attempt::Publish(_) | Attempt::Act(Act::Take) => has_only_pushed(&counted, before),
+        _ => counted == *before,
     };
     is_same && is_alike(store, twin)
 }

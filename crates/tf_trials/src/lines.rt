@@ -25,7 +25,7 @@
 //! | `note`, `same`, `freed: BYTES` | notes what it counts and how much of the heap is used; it counts the same; so many bytes came back at least |
 //! | `fill ROOM`, `holes SIZE`, `free` | takes all of the heap but so many bytes, or but holes of that size; gives it back |
 //! | `used: BYTES` | so much of the heap is used at most, and nine tenths of it at least |
-//! | `grow STEP FIRST REFUSALS` | each batch, pulse, publish and `take` has so many bytes of the heap at first and, where it is refused, so many more; it is refused so often at least. `grow` alone ends it |
+//! | `grow STEP FIRST REFUSALS` | each batch, pulse, publish, `take`, `merge` and `install` has so many bytes of the heap at first and, where it is refused, so many more; it is refused so often at least. `grow` alone ends it |
 //! | `ids COUNT` | how many ids are looked up; with 0 the store isn't compared with the plain ledger |
 //! | `outlives held\|taken` | what the first reader holds, or the first version that was taken, is asked once more when the store is dropped: it has 200 transfers at least, and answers as the plain ledger did when it was marked |
 //!

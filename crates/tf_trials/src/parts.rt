@@ -33,7 +33,7 @@ enum Kind {
     Count,
     Receipt,
     Soak,
-    /// What is done with a reader or a row.
+    /// What is done with a reader.
     Place,
     /// What is set for the parts that come next, what else the store does, or commands.
     Other,
@@ -42,14 +42,14 @@ enum Kind {
 /// What a part is about that begins with this word.
 fn kind_of(word: &str) -> Kind {
     match word {
-        "publish" | "take" => Kind::Attempt,
+        "publish" | "take" | "merge" | "install" => Kind::Attempt,
         "ask" => Kind::Ask,
         "note" => Kind::Note,
         "same" => Kind::Same,
         "count" | "freed" | "used" => Kind::Count,
         "receipt" => Kind::Receipt,
         "soak" => Kind::Soak,
-        "give" | "follow" | "merge" => Kind::Place,
+        "give" | "follow" => Kind::Place,
         _ => Kind::Other,
     }
 }
@@ -76,7 +76,7 @@ pub fn holds<F: Tried>(
     }
 }
 
-/// Whether a publish, or a version that is taken, is answered so.
+/// Whether a call that takes memory is answered so.
 fn attempts<F: Tried>(
     store: &mut F,
     trial: &mut Trial<'_>,
@@ -92,15 +92,18 @@ fn attempts<F: Tried>(
     )
 }
 
-/// The call of a part: a publish, of which the reader may learn that it names, or a version is taken.
+/// The call of a part: a version is taken, a run of a row is merged or installed, or a publish, of which the reader may learn that
+/// it names.
 fn attempt_in<'a>(numbers: Numbers, part: Part<'_>) -> Result<Attempt<'a>, Refusal> {
-    if part.word == "take" {
-        return Ok(Attempt::Take);
+    let place = number(numbers, part.rest)? as usize;
+    match part.word {
+        "take" => Ok(Attempt::Act(Act::Take)),
+        "install" => Ok(Attempt::Act(Act::Install)),
+        "merge" if place < ROWS => Ok(Attempt::Act(Act::Merge(place))),
+        "merge" => Err(UNREADABLE),
+        _ if part.rest.is_empty() => Ok(Attempt::Publish(None)),
+        _ => Ok(Attempt::Publish(Some(place))),
     }
-    if part.rest.is_empty() {
-        return Ok(Attempt::Publish(None));
-    }
-    Ok(Attempt::Publish(Some(number(numbers, part.rest)? as usize)))
 }
 
 /// Whether what the store does, or the commands of a part, answer so.
@@ -121,19 +124,16 @@ fn act_of(word: &str) -> Option<Act> {
         "let_taken" => Some(Act::LetTakenGo),
         "let_given" => Some(Act::LetGivenGo),
         "show" => Some(Act::ShowMerged),
-        "install" => Some(Act::Install),
         _ => None,
     }
 }
 
-/// Whether what is done with a reader or a row is answered so.
+/// Whether what is done with a reader is answered so.
 fn acts_at<F: Tried>(store: &mut F, numbers: Numbers, part: Part<'_>) -> Result<bool, Refusal> {
     let place = number(numbers, part.rest)? as usize;
     let asked = match part.word {
         "give" => Act::Give(place),
-        "follow" => Act::Follow(place),
-        _ if place < ROWS => Act::Merge(place),
-        _ => return Err(UNREADABLE),
+        _ => Act::Follow(place),
     };
     Ok(act(store, asked).is(part.answer))
 }

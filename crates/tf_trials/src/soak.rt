@@ -2,7 +2,7 @@
 //!
 //! What is picked and merged waits while other things are stored, published, merged and installed, so that installs cross.
 
-use crate::attempts::{Attempt, has_published, has_taken, is_as_before, try_out};
+use crate::attempts::{Attempt, has_acted, has_published, is_as_before, try_out};
 use crate::calls::{act, ask, count, is_alike};
 use crate::dice::Dice;
 use crate::events::{any_batch, one_of_round};
@@ -173,7 +173,7 @@ fn take_any<F: Tried>(store: &mut F, twin: &mut Twin, plan: &mut Plan) -> bool {
 /// A version is taken and asked, and kept if versions are kept for long.
 fn take<F: Tried>(store: &mut F, twin: &mut Twin, plan: &mut Plan) -> bool {
     let before = count(store, twin);
-    match has_taken(store, "any") {
+    match has_acted(store, Act::Take, "any") {
         Some(true) => {
             twin.mark();
             plan.is_kept = plan.keeps_long;
@@ -181,7 +181,7 @@ fn take<F: Tried>(store: &mut F, twin: &mut Twin, plan: &mut Plan) -> bool {
                 && (plan.keeps_long || is_done(store, Act::LetTakenGo))
         }
         Some(false) => false,
-        None => is_as_before(store, twin, Attempt::Take, &before),
+        None => is_as_before(store, twin, Attempt::Act(Act::Take), &before),
     }
 }
 

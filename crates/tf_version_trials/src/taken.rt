@@ -9,7 +9,7 @@ use crate::resting::Resting;
 use std::alloc::{Allocator, Global};
 use std::sync::Wait;
 use tf_forest_trials::{
-    Asked, Outcome, Rows, Taken, all_taken, ask_plain, is_same_outcome, take_for_many,
+    Asked, AtOnce, Outcome, Rows, Taken, all_taken, ask_plain, is_same_outcome, take_for_queries,
 };
 use tf_manifest::Registries;
 use tf_query::Version;
@@ -19,7 +19,7 @@ use tf_rows::{EmptyRows, SealRows};
 use tf_script::{Command, Query};
 use tf_trials::Plain;
 
-/// A version of an empty forest, once it ran a random journal.
+/// A version of an empty forest, once it ran a journal.
 pub type TakenVersion<A, N> = Taken<Version<A, N>>;
 
 fn take_of_forest<T, A, N, R>(
@@ -27,6 +27,7 @@ fn take_of_forest<T, A, N, R>(
     lists: Global,
     alloc: A,
     forest: &mut Resting<T, A, N>,
+    asked: AtOnce,
 ) -> Result<TakenVersion<A, N>, Refusal>
 where
     T: SealRows<A> + Drop,
@@ -36,7 +37,7 @@ where
 {
     let mut plain = Plain::new(lists);
     let mut forested = Forested::new(rt, lists, alloc, forest);
-    let queries = take_for_many(lists, &mut plain, &mut forested);
+    let queries = take_for_queries(lists, &mut plain, &mut forested, asked);
     all_taken(forested.into_version(), plain, queries)
 }
 
@@ -45,6 +46,7 @@ fn take_from_rows<T, A, N, R>(
     lists: Global,
     alloc: A,
     rows: tf_publish::Rows<T, A, N>,
+    asked: AtOnce,
 ) -> Result<TakenVersion<A, N>, Refusal>
 where
     T: SealRows<A> + Drop,
@@ -54,7 +56,7 @@ where
     requires { AreEmpty (parts_of (T.entries rows.fresh) rows.published.tables) }
 {
     let mut forest = Resting::new(alloc, rows);
-    let taken = take_of_forest(rt, lists, alloc, &mut forest);
+    let taken = take_of_forest(rt, lists, alloc, &mut forest, asked);
     drop(forest);
     taken
 }
@@ -65,6 +67,7 @@ pub fn take_version<T, A, N, R>(
     lists: Global,
     alloc: A,
     registries: &Registries<A>,
+    asked: AtOnce,
 ) -> Result<TakenVersion<A, N>, Refusal>
 where
     T: EmptyRows<A> + SealRows<A> + Drop,
@@ -74,7 +77,7 @@ where
     requires { AreShelves N.shelf registries.now }
 {
     let rows: tf_publish::Rows<T, A, N> = tf_publish::Rows::new(alloc, registries)?;
-    take_from_rows(rt, lists, alloc, rows)
+    take_from_rows(rt, lists, alloc, rows, asked)
 }
 
 /// Lets go of a version.

@@ -5,7 +5,7 @@ use std::alloc::{Allocator, Global};
 use std::marker::{Send, Sync};
 use std::sync::Wait;
 use std::thread::Threads;
-use tf_forest_trials::Rows;
+use tf_forest_trials::{AtOnce, Rows};
 use tf_manifest::Registries;
 use tf_query::Version;
 use tf_query_all::{Answer, Filter, query_all};
@@ -84,7 +84,7 @@ where
     R: Wait + Threads + Sync,
     requires { AreShelves N.shelf registries.now }
 {
-    match take_version::<T, A, N, R>(rt, lists, alloc, registries) {
+    match take_version::<T, A, N, R>(rt, lists, alloc, registries, AtOnce::Many) {
         Ok(taken) => {
             let tried = are_right(rt, lists, &taken);
             let_go(taken);
