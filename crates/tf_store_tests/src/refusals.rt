@@ -134,7 +134,7 @@ fn each_request_for_a_chain_under_a_limit_is_refused_in_turn(rt: HostRuntime) {
 
 /// Two transfers that expire at the same moment, one a pulse.
 const SAME_EXPIRY: &str = "\
-grow 720 M
+ids 53 | grow 720 M
 run accounts 1000; + id=1 ledger=700 code=10; + id=2 ledger=700 code=10; end
 publish: 1
 run transfers 0; + id=41 debit_account_id=1 credit_account_id=2 amount=1 ledger=700 code=1 flags=pending timeout=2; end
@@ -154,7 +154,7 @@ fn each_request_for_expiries_of_one_moment_is_refused_in_turn(rt: HostRuntime) {
 
 /// Four tables of the row of expiries are merged, and installed once two transfers have expired and that was published.
 const MERGED_EXPIRIES: &str = "\
-grow 720 M
+ids 53 | grow 720 M
 run accounts 1000; + id=1 ledger=700 code=10; + id=2 ledger=700 code=10; end
 publish: 1
 run transfers 0; + id=43 debit_account_id=1 credit_account_id=2 amount=10 ledger=700 code=1 flags=pending timeout=1; end
@@ -176,7 +176,7 @@ fn each_request_for_a_merge_across_a_pulse_is_refused_in_turn(rt: HostRuntime) {
 
 /// Balances of an account with history, of which one pending transfer expires and the other is posted.
 const HISTORY: &str = "\
-grow 720 M
+ids 53 | grow 720 M
 run accounts 1000; + id=1 ledger=700 code=10 flags=history; + id=2 ledger=700 code=10; end
 publish: 1
 run transfers 0; \
