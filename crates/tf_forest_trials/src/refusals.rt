@@ -1,6 +1,6 @@
 //! Requests for memory that are refused to queries and look-ups, each in turn.
 
-use crate::asking::{Outcome, answer_of, ask_plain, count_of};
+use crate::asking::{Outcome, ask_plain, count_of};
 use crate::calls::{ask, ask_on, does};
 use crate::publishing::run_list;
 use crate::refused::AMPLE;
@@ -93,8 +93,27 @@ fn refusals<F: Tried>(
     Ok(None)
 }
 
-/// Whether a query or a look-up is refused in turn on a heap where it takes memory, and else never, and is answered as the plain
-/// ledger does.
+/// What questions find, and whether they take memory for it.
+#[derive(Clone, Copy)]
+enum Finds {
+    /// Each finds something, and takes memory.
+    Rows,
+    /// None finds anything, and none takes memory.
+    Nothing,
+    /// Some find nothing; those that find something take memory.
+    RowsOrNothing,
+}
+
+/// Whether questions that find so much may have found this and been refused so often.
+fn may_be(finds: Finds, has_rows: bool, refused: usize) -> bool {
+    match finds {
+        Finds::Rows => has_rows && refused > 0,
+        Finds::Nothing => !has_rows && refused == 0,
+        Finds::RowsOrNothing => !has_rows || refused > 0,
+    }
+}
+
+/// Whether a query or a look-up is refused in turn on a heap where it takes memory, and is answered as the plain ledger does.
 fn is_right_on<F: Tried>(
     alloc: Global,
     heap: &LocalHeap,
@@ -102,14 +121,13 @@ fn is_right_on<F: Tried>(
     forest: &mut F,
     question: &Command<Global>,
     step: usize,
-    takes_memory: bool,
+    finds: Finds,
 ) -> bool {
     let expected = ask_plain(alloc, plain.ledger(), question);
     let has_rows = count_of(&expected) > 0;
     let refused = refusals(alloc, heap, forest, question, &expected, step);
     drop(expected);
-    has_rows == takes_memory
-        && matches!(refused, Ok(Some(refused)) if (refused > 0) == takes_memory)
+    matches!(refused, Ok(Some(refused)) if may_be(finds, has_rows, refused))
 }
 
 /// The same on a heap of its own.
@@ -119,12 +137,12 @@ fn is_right<F: Tried>(
     forest: &mut F,
     question: &Command<Global>,
     step: usize,
-    takes_memory: bool,
+    finds: Finds,
 ) -> bool {
     let Ok(heap) = LocalHeap::new(alloc, AMPLE) else {
         return false;
     };
-    let is_right = is_right_on(alloc, &heap, plain, forest, question, step, takes_memory);
+    let is_right = is_right_on(alloc, &heap, plain, forest, question, step, finds);
     drop(heap);
     is_right
 }
@@ -135,10 +153,10 @@ fn are_right<F: Tried>(
     plain: &Plain,
     forest: &mut F,
     questions: &[Command<Global>],
-    takes_memory: bool,
+    finds: Finds,
 ) -> bool {
     for question in questions {
-        if !is_right(alloc, plain, forest, question, STEP, takes_memory) {
+        if !is_right(alloc, plain, forest, question, STEP, finds) {
             return false;
         }
     }
@@ -151,12 +169,12 @@ fn is_text_right<F: Tried>(
     plain: &Plain,
     forest: &mut F,
     text: &str,
-    takes_memory: bool,
+    finds: Finds,
 ) -> bool {
     let Ok(questions) = parse(alloc, text.as_bytes()) else {
         return false;
     };
-    let are_right = are_right(alloc, plain, forest, questions.as_slice(), takes_memory);
+    let are_right = are_right(alloc, plain, forest, questions.as_slice(), finds);
     drop(questions);
     are_right
 }
@@ -168,13 +186,13 @@ fn are_accounts_right<F: Tried>(
     forest: &mut F,
     count: u32,
     step: usize,
-    takes_memory: bool,
+    finds: Finds,
 ) -> bool {
     let Ok(ids) = ids(alloc, count) else {
         return false;
     };
     let question = Command::LookupAccounts(ids);
-    let is_right = is_right(alloc, plain, forest, &question, step, takes_memory);
+    let is_right = is_right(alloc, plain, forest, &question, step, finds);
     drop(question);
     is_right
 }
@@ -186,23 +204,23 @@ fn are_transfers_right<F: Tried>(
     forest: &mut F,
     count: u32,
     step: usize,
-    takes_memory: bool,
+    finds: Finds,
 ) -> bool {
     let Ok(ids) = ids(alloc, count) else {
         return false;
     };
     let question = Command::LookupTransfers(ids);
-    let is_right = is_right(alloc, plain, forest, &question, step, takes_memory);
+    let is_right = is_right(alloc, plain, forest, &question, step, finds);
     drop(question);
     is_right
 }
 
 /// Whether look-ups of as many ids as they may have, and of one more, are right so.
 fn are_long_right<F: Tried>(alloc: Global, plain: &Plain, forest: &mut F) -> bool {
-    are_accounts_right(alloc, plain, forest, 8190, LONG_STEP, true)
-        && are_accounts_right(alloc, plain, forest, 8191, STEP, false)
-        && are_transfers_right(alloc, plain, forest, 8190, LONG_STEP, true)
-        && are_transfers_right(alloc, plain, forest, 8191, STEP, false)
+    are_accounts_right(alloc, plain, forest, 8190, LONG_STEP, Finds::Rows)
+        && are_accounts_right(alloc, plain, forest, 8191, STEP, Finds::Nothing)
+        && are_transfers_right(alloc, plain, forest, 8190, LONG_STEP, Finds::Rows)
+        && are_transfers_right(alloc, plain, forest, 8191, STEP, Finds::Nothing)
 }
 
 /// Whether a version of a random journal answers as before when it is refused memory in turn for each query and look-up.
@@ -215,8 +233,8 @@ pub fn are_refusals_right<F: Tried>(
     Ok(
         is_run
             && does(forest, Act::Take)
-            && is_text_right(alloc, plain, forest, VALID, true)
-            && is_text_right(alloc, plain, forest, INVALID, false)
+            && is_text_right(alloc, plain, forest, VALID, Finds::Rows)
+            && is_text_right(alloc, plain, forest, INVALID, Finds::Nothing)
             && are_long_right(alloc, plain, forest),
     )
 }
@@ -233,41 +251,14 @@ pub fn queries_of_scripts(alloc: Global) -> Result<Vec<Query, Global>, Refusal> 
     Ok(queries)
 }
 
-/// Whether a query or a look-up is answered as the plain ledger does and, where it finds something, is refused in turn.
-fn is_right_or_empty<F: Tried>(
-    alloc: Global,
-    plain: &Plain,
-    forest: &mut F,
-    question: &Command<Global>,
-) -> bool {
-    let tally = answer_of(alloc, forest, 0, plain, question);
-    tally.is_right && (tally.rows == 0 || is_right(alloc, plain, forest, question, STEP, true))
-}
-
-/// The same with several.
-fn are_right_or_empty<F: Tried>(
-    alloc: Global,
-    plain: &Plain,
-    forest: &mut F,
-    questions: &[Command<Global>],
-) -> bool {
-    for question in questions {
-        if !is_right_or_empty(alloc, plain, forest, question) {
-            return false;
-        }
-    }
-    true
-}
-
 /// Whether a version of a worked script's journal answers as before when it is refused memory in turn for each query and look-up.
 pub fn are_script_refusals_right<F: Tried>(
     alloc: Global,
     plain: &Plain,
     forest: &mut F,
 ) -> Result<bool, Refusal> {
-    let questions = parse(alloc, OF_SCRIPTS.as_bytes())?;
-    let are_right = does(forest, Act::Take)
-        && are_right_or_empty(alloc, plain, forest, questions.as_slice());
-    drop(questions);
-    Ok(are_right)
+    Ok(
+        does(forest, Act::Take)
+            && is_text_right(alloc, plain, forest, OF_SCRIPTS, Finds::RowsOrNothing),
+    )
 }

@@ -91,7 +91,8 @@ fn each_request_of_a_publish_is_refused_in_turn(rt: HostRuntime) {
     assert_each(&rt, EACH_OF_PUBLISHES);
 }
 
-/// A run of each row is merged and installed, each with `M` bytes at first and 720 more where it is refused.
+/// A run of each row is merged and installed, each with `M` bytes at first and 720 more where it is refused. An install asks for memory
+/// only where the registry grows, which none does here.
 const EACH_OF_MERGES: &str = "\
 ids 10
 accounts | round 0 | publish: 3
@@ -107,7 +108,7 @@ repeat 1 4 round N | publish: 2
 repeat 0 21 fill 0 | merge N: no_memory | free | fill 4096 | merge N | free";
 
 #[test]
-fn each_request_of_a_merge_and_an_install_is_refused_in_turn(rt: HostRuntime) {
+fn each_request_of_a_merge_is_refused_in_turn_before_its_install(rt: HostRuntime) {
     assert_each(&rt, EACH_OF_MERGES);
     assert_text(&rt, Fixture::USUAL, MERGED_IN_LITTLE);
 }

@@ -14,8 +14,7 @@ use tf_readers::{Copies, Publishable, Reader};
 use tf_records::Refusal;
 use tf_rows::{EmptyRows, SealRows};
 use tf_store::{BlankStore, Share, StoreName, StoreOf, VersionCopies, VersionOf};
-use tf_worker_trials::{Meetings, Tasks, Trial, Tried, WatchedReader, learn, take_turns, watched};
-use tf_workers::{Done, Totals, storm};
+use tf_worker_trials::{Meetings, Tasks, Trial, Tried, try_on};
 
 /// Runs a trial on an empty store with registries of its own, which has a share for each client and two readers.
 pub fn try_out<R: Wait + Threads + Sync>(
@@ -30,15 +29,12 @@ pub fn try_out<R: Wait + Threads + Sync>(
 {
     let shares = tasks.works.len() as u32;
     match Registries::new(alloc) {
-        Ok(registries) => with_name::<Brand, R>(
-            rt,
-            alloc,
-            &registries,
-            BlankStore::new(shares),
-            tasks,
-            trial,
-            gate,
-        ),
+        Ok(registries) => {
+            let blank = BlankStore::new(shares);
+            let tried = with_name::<Brand, R>(rt, alloc, &registries, blank, tasks, trial, gate);
+            drop(registries);
+            tried
+        }
         Err(_) => Tried::Nothing,
     }
 }
@@ -156,131 +152,8 @@ where
 {
     match opened {
         Ok((store, shares, readers)) => {
-            match watched(alloc, readers, tasks.answers) {
-                Ok(readers) => with_readers(rt, alloc, store, shares, readers, tasks, trial, gate),
-                Err(_) => {
-                    store.close();
-                    Tried::Nothing
-                }
-            }
+            try_on(rt, alloc, store, shares, readers, tasks, trial, gate)
         }
         Err(_) => Tried::Nothing,
     }
-}
-
-/// On a new store whose readers are watched.
-fn with_readers<T, S, C, V, R>(
-    rt: &R,
-    alloc: Global,
-    store: StoreOf<T, C, Global, S>,
-    shares: Vec<Share<S>, Global>,
-    readers: Vec<WatchedReader<V, S>, Global>,
-    tasks: &Tasks,
-    trial: Trial,
-    gate: &Meetings,
-) -> Tried
-where
-    T: SealRows<Global> + Send + Drop,
-    S: StoreName + Send + Sync,
-    C: VersionCopies<Version<Global, S>, S> + Send + Drop,
-    V: Publishable + Send + Sync + Drop,
-    R: Wait + Threads + Sync,
-    requires clients { (0 < vec_len tasks.now.works) × (vec_len tasks.now.works ≤ 64) }
-    requires asks { vec_len tasks.now.asks ≡ 2 }
-    requires readers { vec_len readers ≤ 2 }
-    requires shares { (vec_len shares ≡ vec_len tasks.now.works) × (vec_len shares ≡ S.parts) }
-{
-    match trial {
-        Trial::Storm => {
-            let works = tasks.works.as_slice();
-            let asks = tasks.asks.as_slice();
-            told(storm(rt, alloc, alloc, store, shares, readers, works, asks, gate))
-        }
-        _ => try_alone(rt, alloc, store, shares, readers, tasks, trial),
-    }
-}
-
-/// Whether each worker of a storm with two query workers told what it did, and clients stored what was counted.
-fn are_counted(done: &Vec<Done, Global>, totals: Totals) -> bool {
-    let mut stored_by_clients = 0u64;
-    for what in done {
-        if let Done::Client { stored, .. } = what {
-            stored_by_clients = stored_by_clients.saturating_add(*stored);
-        }
-    }
-    done.len() as u64 == totals.clients.saturating_add(4) && stored_by_clients == totals.stored
-}
-
-/// What was counted, once the store is dropped.
-fn told<X: Drop, E: Drop>(ended: Result<(X, Totals, Vec<Done, Global>), E>) -> Tried {
-    match ended {
-        Ok((store, totals, done)) => {
-            drop(store);
-            if are_counted(&done, totals) {
-                Tried::Storm(totals)
-            } else {
-                Tried::Nothing
-            }
-        }
-        Err(_) => Tried::Nothing,
-    }
-}
-
-/// On a store with the last share and the last reader, in one thread.
-fn try_alone<T, S, C, V, R>(
-    rt: &R,
-    alloc: Global,
-    store: StoreOf<T, C, Global, S>,
-    shares: Vec<Share<S>, Global>,
-    readers: Vec<WatchedReader<V, S>, Global>,
-    tasks: &Tasks,
-    trial: Trial,
-) -> Tried
-where
-    T: SealRows<Global> + Drop,
-    S: StoreName,
-    C: VersionCopies<Version<Global, S>, S> + Drop,
-    V: Publishable + Drop,
-    R: Wait,
-    requires clients { 0 < vec_len tasks.now.works }
-    requires asks { vec_len tasks.now.asks ≡ 2 }
-{
-    let mut shares = shares;
-    let mut readers = readers;
-    let (Some(share), Some(reader)) = (shares.pop(), readers.pop()) else {
-        store.close();
-        return Tried::Nothing;
-    };
-    match trial {
-        Trial::Receipt => Tried::Receipt(try_receipt(rt, alloc, store, share, reader)),
-        _ => {
-            let work = tasks.works[0].as_slice();
-            let asks = tasks.asks[0].as_slice();
-            match take_turns(rt, alloc, store, share, reader, work, asks) {
-                Some(turns) => Tried::Turns(turns),
-                None => Tried::Nothing,
-            }
-        }
-    }
-}
-
-/// A receipt of which a reader learns.
-fn try_receipt<T, S, C, V, R>(
-    rt: &R,
-    alloc: Global,
-    store: StoreOf<T, C, Global, S>,
-    share: Share<S>,
-    reader: WatchedReader<V, S>,
-) -> bool
-where
-    T: SealRows<Global> + Drop,
-    S: StoreName,
-    C: VersionCopies<Version<Global, S>, S> + Drop,
-    V: Publishable + Drop,
-    R: Wait,
-{
-    let (mut store, mut share, mut reader) = (store, share, reader);
-    let is_learned = learn(rt, alloc, &mut store, &mut share, &mut reader.reader);
-    store.close();
-    is_learned
 }

@@ -12,6 +12,8 @@ pub enum Trial {
     Turns,
     /// A batch of whose receipt a reader learns.
     Receipt,
+    /// A batch that a thread publishes, which locks the store.
+    Lock,
 }
 
 /// What came of a trial.
@@ -19,7 +21,8 @@ pub enum Trial {
 pub enum Tried {
     Storm(Totals),
     Turns(Turns),
-    Receipt(bool),
+    /// Whether a reader saw what was stored once it was published, of its receipt or by a thread.
+    Seen(bool),
     /// A growth was refused, or a thread.
     Nothing,
 }

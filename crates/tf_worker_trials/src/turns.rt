@@ -229,7 +229,7 @@ where
 }
 
 /// The book of a store, which is let go.
-fn book_of<F, C, S>(store: Store<Forest<F, Global>, C, Global, S>) -> u64
+pub(crate) fn book_of<F, C, S>(store: Store<Forest<F, Global>, C, Global, S>) -> u64
 where
     F: AllRows + Drop,
     C: StoredCopies + Drop,

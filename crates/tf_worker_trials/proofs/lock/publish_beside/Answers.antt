@@ -3,7 +3,7 @@ use Rattle.std.proofs.CrossingOver as over
 use denote.Param.Send.{sendable}
 use Rattle.tf_store.proofs.Crossing.{forest-send, rows-send, store-send}
 use Rattle.tf_store.proofs.OnHeap.{heap-send, heap-sync, heap-frees}
-use Rattle.tf_lock_trials.proofs.threads.publish_beside.Goals as goal
+use Rattle.tf_worker_trials.proofs.lock.publish_beside.Goals as goal
 
 pub publish_in_thread-receipts-requires-sync-P : goal.publish_in_thread-receipts-requires-sync-P
 publish_in_thread-receipts-requires-sync-P g c κs within =
