@@ -1,5 +1,5 @@
 //! The two copies of what was published last.
-ghost use Rattle.std.specs.Prelude.{◌≡◌, ◌≤◌, IfErr, IfOk, OnErr, OnOk, vec_len};
+ghost use Rattle.std.specs.Prelude.{◌≡◌, IfErr, IfOk, OnErr, OnOk, vec_len};
 ghost use Rattle.std.specs.List.{All};
 ghost use Rattle.left_right.specs.Handles.{published};
 ghost use Rattle.tf_readers.specs.Reader.{HasSeen};
@@ -17,8 +17,7 @@ use tf_records::Refusal;
 /// readers.
 pub type Copies<V, A, S, R> = WriteHandle<Published<V, S>, Published<V, S>, R, A>;
 
-/// Copies that show a page, and readers that have seen it: as many as asked for, or fewer where the copies have no place for
-/// more.
+/// Copies that show a page, and as many readers as are asked for, which have seen it.
 ///
 /// [`Refusal::NoMemory`] is the only refusal, and gives everything back. Takes memory for both copies, with a place for each
 /// reader, and once for the readers.
@@ -34,7 +33,7 @@ where
     S: HistoryName,
     R: Wait + Drop,
     ensures shown { IfOk result (λ r. published r.0 ≡ page.now) }
-    ensures count { IfOk result (λ r. vec_len r.1 ≤ readers) }
+    ensures count { IfOk result (λ r. vec_len r.1 ≡ readers) }
     ensures readers { IfOk result (λ r. All (HasSeen page.now) r.1.items) }
     ensures refusal { IfErr result (λ refusal. refusal ≡ Refusal.NoMemory) }
 {
@@ -49,7 +48,7 @@ where
     Ok((copies, readers))
 }
 
-/// So many readers that have seen a page, or fewer where the copies have no place for more.
+/// So many readers that have seen a page.
 fn readers_of<V, A, S, R>(
     alloc: A,
     copies: &Copies<V, A, S, R>,
@@ -61,15 +60,12 @@ where
     A: Allocator + Copy,
     S: HistoryName,
     R: Wait + Drop,
-    ensures count { IfOk result (λ readers. vec_len readers ≤ count) }
+    ensures count { IfOk result (λ readers. vec_len readers ≡ count) }
     ensures seen { IfOk result (λ readers. All (HasSeen page.now) readers.items) }
 {
     let mut readers = Vec::with_capacity(alloc, count as usize)?;
     for _ in 0..count {
-        let Ok(handle) = copies.handle() else {
-            break;
-        };
-        readers.push(Reader::new(handle, page.again()?))?;
+        readers.push(Reader::new(copies.handle()?, page.again()?))?;
     }
     Ok(readers)
 }

@@ -1,5 +1,5 @@
 //! New stores.
-ghost use Rattle.std.specs.Prelude.{◌≡◌, ◌<◌, ◌≤◌, ℕ, [], true, is_ok, vec_len, Ok, IfOk, IfErr};
+ghost use Rattle.std.specs.Prelude.{◌≡◌, ◌<◌, ℕ, [], true, is_ok, vec_len, Ok, IfOk, IfErr};
 ghost use Rattle.std.specs.List.{All};
 ghost use Rattle.tf_history.specs.Written.{nothing_written};
 ghost use Rattle.tf_manifest.specs.Registries.{AreShelves};
@@ -174,8 +174,8 @@ where
     S: StoreName,
     R: Wait + Drop,
 {
-    /// An empty store over these registries, its shares, each 0, and as many readers as are asked for, or fewer where the copies
-    /// have no place for more. What readers enter, `V`, is `Version<A, S>`. `NoMemory` is the only refusal.
+    /// An empty store over these registries, its shares, each 0, and as many readers as are asked for. What readers enter, `V`, is
+    /// `Version<A, S>`. `NoMemory` is the only refusal.
     pub fn new(
         alloc: A,
         rt: R,
@@ -194,7 +194,7 @@ where
         ensures readable { IfOk result (λ r. r.0.readable ≡ []) }
         ensures sealed { IfOk result (λ r. r.0.forest.sealed ≡ nothing_sealed registries.now.limit) }
         ensures shares { IfOk result (λ r. (vec_len r.1 ≡ shares) × All (λ s. s ≡ 0) r.1.items) }
-        ensures readers { IfOk result (λ r. (vec_len r.2 ≤ readers) × All (HasSeen []) r.2.items) }
+        ensures readers { IfOk result (λ r. (vec_len r.2 ≡ readers) × All (HasSeen []) r.2.items) }
         ensures refusal { IfErr result (λ refusal. refusal ≡ Refusal.NoMemory) }
     {
         let (names, shares, (latest, version)) = match begin(alloc, registries, blank, shares) {

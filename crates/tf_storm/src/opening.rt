@@ -165,7 +165,7 @@ where
     G: Gate + Sync,
     requires few { (0 < vec_len tasks.now.works) × (vec_len tasks.now.works ≤ 64) }
     requires asks { vec_len tasks.now.asks ≡ 2 }
-    requires readers { IfOk opened (λ o. vec_len o.2 ≤ 2) }
+    requires readers { IfOk opened (λ o. vec_len o.2 ≡ 2) }
     requires shares { IfOk opened (λ o. (vec_len o.1 ≡ vec_len tasks.now.works) × (vec_len o.1 ≡ S.parts)) }
     ensures { MatchResult result (λ counted. AreTotals (vec_len tasks.now.works) counted.0) StopsWorking }
 {

@@ -147,7 +147,7 @@ where
     R: Wait + Threads + Sync,
     requires clients { (0 < vec_len tasks.now.works) × (vec_len tasks.now.works ≤ 64) }
     requires asks { vec_len tasks.now.asks ≡ 2 }
-    requires readers { IfOk opened (λ o. vec_len o.2 ≤ 2) }
+    requires readers { IfOk opened (λ o. vec_len o.2 ≡ 2) }
     requires shares { IfOk opened (λ o. (vec_len o.1 ≡ vec_len tasks.now.works) × (vec_len o.1 ≡ S.parts)) }
 {
     match opened {

@@ -5,6 +5,7 @@ use crate::gates::Meetings;
 use crate::lock::publish_beside;
 use crate::readers::{WatchedReader, watched};
 use crate::receipts::learn;
+use crate::shared::end;
 use crate::tasks::Tasks;
 use crate::trials::{Trial, Tried};
 use crate::turns::take_turns;
@@ -16,7 +17,7 @@ use tf_query::Version;
 use tf_readers::{Publishable, Reader};
 use tf_rows::SealRows;
 use tf_store::{Share, StoreName, StoreOf, VersionCopies};
-use tf_workers::{Done, Totals, storm};
+use tf_workers::{Done, SharedStore, Totals, storm};
 
 /// Runs a trial on a new store with a share for each client and two readers.
 pub fn try_on<T, S, C, V, R>(
@@ -40,10 +41,11 @@ where
     requires readers { vec_len readers ≤ 2 }
     requires shares { (vec_len shares ≡ vec_len tasks.now.works) × (vec_len shares ≡ S.parts) }
 {
+    let shared = SharedStore::new(store);
     match watched(alloc, readers, tasks.answers) {
-        Ok(readers) => try_watched(rt, alloc, store, shares, readers, tasks, trial, gate),
+        Ok(readers) => try_watched(rt, alloc, shared, shares, readers, tasks, trial, gate),
         Err(_) => {
-            store.close();
+            end(shared);
             Tried::Nothing
         }
     }
@@ -53,7 +55,7 @@ where
 fn try_watched<T, S, C, V, R>(
     rt: &R,
     alloc: Global,
-    store: StoreOf<T, C, Global, S>,
+    shared: SharedStore<T, C, Global, S>,
     shares: Vec<Share<S>, Global>,
     readers: Vec<WatchedReader<V, S>, Global>,
     tasks: &Tasks,
@@ -75,9 +77,10 @@ where
         Trial::Storm => {
             let works = tasks.works.as_slice();
             let asks = tasks.asks.as_slice();
+            let store = shared.into_store();
             told(storm(rt, alloc, alloc, store, shares, readers, works, asks, gate))
         }
-        _ => try_alone(rt, alloc, store, shares, readers, tasks, trial),
+        _ => try_alone(rt, alloc, shared, shares, readers, tasks, trial),
     }
 }
 
@@ -111,7 +114,7 @@ fn told<X: Drop, E: Drop>(ended: Result<(X, Totals, Vec<Done, Global>), E>) -> T
 fn try_alone<T, S, C, V, R>(
     rt: &R,
     alloc: Global,
-    store: StoreOf<T, C, Global, S>,
+    shared: SharedStore<T, C, Global, S>,
     shares: Vec<Share<S>, Global>,
     readers: Vec<WatchedReader<V, S>, Global>,
     tasks: &Tasks,
@@ -129,40 +132,19 @@ where
     let mut shares = shares;
     let mut readers = readers;
     let (Some(share), Some(reader)) = (shares.pop(), readers.pop()) else {
-        store.close();
+        end(shared);
         return Tried::Nothing;
     };
     match trial {
-        Trial::Receipt => Tried::Seen(try_receipt(rt, alloc, store, share, reader)),
-        Trial::Lock => Tried::Seen(publish_beside(rt, alloc, store, share, reader.reader)),
+        Trial::Receipt => Tried::Seen(learn(rt, alloc, shared, share, reader.reader)),
+        Trial::Lock => Tried::Seen(publish_beside(rt, alloc, shared, share, reader.reader)),
         _ => {
             let work = tasks.works[0].as_slice();
             let asks = tasks.asks[0].as_slice();
-            match take_turns(rt, alloc, store, share, reader, work, asks) {
+            match take_turns(rt, alloc, shared, share, reader, work, asks) {
                 Some(turns) => Tried::Turns(turns),
                 None => Tried::Nothing,
             }
         }
     }
-}
-
-/// A receipt of which a reader learns.
-fn try_receipt<T, S, C, V, R>(
-    rt: &R,
-    alloc: Global,
-    store: StoreOf<T, C, Global, S>,
-    share: Share<S>,
-    reader: WatchedReader<V, S>,
-) -> bool
-where
-    T: SealRows<Global> + Drop,
-    S: StoreName,
-    C: VersionCopies<Version<Global, S>, S> + Drop,
-    V: Publishable + Drop,
-    R: Wait,
-{
-    let (mut store, mut share, mut reader) = (store, share, reader);
-    let is_learned = learn(rt, alloc, &mut store, &mut share, &mut reader.reader);
-    store.close();
-    is_learned
 }

@@ -7,6 +7,7 @@ mod gates;
 mod lock;
 mod readers;
 mod receipts;
+mod shared;
 mod tasks;
 mod trials;
 mod turns;

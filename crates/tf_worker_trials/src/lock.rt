@@ -1,6 +1,6 @@
 //! One thread that locks a store and publishes.
 
-use crate::turns::book_of;
+use crate::shared::{end, stores_one};
 use std::alloc::Global;
 use std::marker::{Send, Sync};
 use std::sync::{Mutex, Wait};
@@ -10,8 +10,8 @@ use tf_query::Version;
 use tf_readers::{Publishable, Reader};
 use tf_records::Refusal;
 use tf_rows::SealRows;
-use tf_store::{Share, StoreName, StoreOf, StoredCopies, VersionCopies};
-use tf_store_trials::{sees, stores};
+use tf_store::{Share, StoreName, StoredCopies, VersionCopies};
+use tf_store_trials::sees;
 use tf_workers::SharedStore;
 
 /// What a thread does with a store. It knows the store by this alone.
@@ -65,11 +65,11 @@ fn publish_in_thread<P: Publishes + Sync, R: Wait + Threads + Sync>(
     })
 }
 
-/// Whether an account that is stored here is seen by a reader once a thread has locked the store and published.
+/// Whether an account that is stored here is seen by a reader once a thread has locked the store and published. Ends the store.
 pub(crate) fn publish_beside<T, C, V, S, R>(
     rt: &R,
     alloc: Global,
-    store: StoreOf<T, C, Global, S>,
+    shared: SharedStore<T, C, Global, S>,
     share: Share<S>,
     reader: Reader<V, Global, S>,
 ) -> bool
@@ -80,11 +80,10 @@ where
     S: StoreName + Send + Sync,
     R: Wait + Threads + Sync,
 {
-    let (mut store, mut share, mut reader) = (store, share, reader);
-    let is_stored = stores(&mut store, &mut share);
-    let lock = Mutex::new(SharedStore::new(store));
+    let (mut shared, mut share, mut reader) = (shared, share, reader);
+    let is_stored = stores_one(&mut shared, &mut share);
+    let lock = Mutex::new(shared);
     let receipts = publish_in_thread(rt, &Lent { rt, store: &lock });
     let is_seen = sees(alloc, &mut reader) == Some(true);
-    let book = book_of(lock.into_inner().into_store());
-    is_stored && receipts == Some(1) && is_seen && book == 1
+    end(lock.into_inner()) == 1 && is_stored && receipts == Some(1) && is_seen
 }

@@ -1,13 +1,15 @@
 //! A receipt, of which a reader learns.
 
+use crate::shared::{end, stores_one};
 use std::alloc::Global;
 use std::sync::Wait;
 use tf_query::Version;
 use tf_readers::{Publishable, Reader};
 use tf_records::Refusal;
 use tf_rows::SealRows;
-use tf_store::{Receipt, Share, StoreName, StoreOf, VersionCopies};
-use tf_store_trials::{sees, stores};
+use tf_store::{Receipt, Share, StoreName, VersionCopies};
+use tf_store_trials::sees;
+use tf_workers::SharedStore;
 
 /// Tells a reader of receipts, and how many they are.
 fn show_all<V: Publishable + Drop, S: StoreName>(
@@ -26,7 +28,7 @@ fn show_all<V: Publishable + Drop, S: StoreName>(
 /// Publishes, and tells a reader of the receipts. Gives their number.
 fn publish_to<T, C, V, S, R>(
     rt: &R,
-    store: &mut StoreOf<T, C, Global, S>,
+    shared: &mut SharedStore<T, C, Global, S>,
     reader: &mut Reader<V, Global, S>,
 ) -> usize
 where
@@ -36,16 +38,16 @@ where
     S: StoreName,
     R: Wait,
 {
-    show_all(store.publish(rt), reader)
+    show_all(shared.store.publish(rt), reader)
 }
 
-/// Whether a reader sees an account only once it is published, and has learned of its receipt.
-pub fn learn<T, C, V, S, R>(
+/// Whether a reader sees an account only once it is published, and has learned of its receipt. Ends the store.
+pub(crate) fn learn<T, C, V, S, R>(
     rt: &R,
     alloc: Global,
-    store: &mut StoreOf<T, C, Global, S>,
-    share: &mut Share<S>,
-    reader: &mut Reader<V, Global, S>,
+    shared: SharedStore<T, C, Global, S>,
+    share: Share<S>,
+    reader: Reader<V, Global, S>,
 ) -> bool
 where
     T: SealRows<Global> + Drop,
@@ -54,9 +56,10 @@ where
     S: StoreName,
     R: Wait,
 {
-    let is_stored = stores(store, share) && share.count() == 1;
-    let is_early = sees(alloc, reader) != Some(false);
-    let receipts = publish_to(rt, store, reader);
-    let is_seen = sees(alloc, reader) == Some(true);
-    is_stored && !is_early && receipts == 1 && is_seen
+    let (mut shared, mut share, mut reader) = (shared, share, reader);
+    let is_stored = stores_one(&mut shared, &mut share);
+    let is_early = sees(alloc, &mut reader) != Some(false);
+    let receipts = publish_to(rt, &mut shared, &mut reader);
+    let is_seen = sees(alloc, &mut reader) == Some(true);
+    end(shared) == 1 && is_stored && !is_early && receipts == 1 && is_seen
 }

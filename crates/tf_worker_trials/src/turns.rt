@@ -3,16 +3,16 @@ ghost use Rattle.std.specs.Prelude.{◌≡◌, IfOk};
 
 use crate::gates::CountingGate;
 use crate::readers::{WatchedReader, transfer_bytes};
+use crate::shared::{end, expiry_tables};
 use crate::tasks::transfers_of_first;
 use std::alloc::{AllocError, Global};
 use std::sync::{Mutex, Wait};
-use tf_forest::Forest;
-use tf_manifest::{Job, Row};
+use tf_manifest::Job;
 use tf_query::Version;
 use tf_readers::{Asked, Publishable};
 use tf_records::Refusal;
-use tf_rows::{AllRows, MutableRows, SealRows};
-use tf_store::{Share, Store, StoreName, StoreOf, StoredCopies, VersionCopies};
+use tf_rows::SealRows;
+use tf_store::{Share, StoreName, VersionCopies};
 use tf_workers::{
     Ask, Compacted, Ended, JobQueue, JobSeat, OpenGate, Reckoning, SharedStore, Work, client,
     compactor, query_worker, reckon,
@@ -88,24 +88,6 @@ fn reckoned<J: Drop>(
         unreachable!()
     };
     Ok(reckon(rt, queue, seats))
-}
-
-/// How many tables the row of expiries of a store in a lock refers to.
-fn references<T, C, S, R>(rt: &R, store: &Mutex<SharedStore<T, C, Global, S>>) -> u32
-where
-    T: MutableRows + Drop,
-    C: StoredCopies + Drop,
-    S: StoreName,
-    R: Wait,
-{
-    store
-        .lock(rt)
-        .store
-        .forest()
-        .rows()
-        .published
-        .manifest()
-        .references(Row::Expiry)
 }
 
 /// The bytes of the transfers of account 1 in the version that a reader holds.
@@ -210,12 +192,12 @@ where
     let (queue, first, second) = bench(alloc)?;
     let (count, is_complete, first) = store_in_turn(rt, alloc, store, &queue, first, share, work);
     let follows = reader.reader.follow();
-    let before = references(rt, store);
+    let before = expiry_tables(&store.lock(rt));
     let answer = held_bytes(alloc, reader);
     queue.close();
     let (installs, second) = install_in_turn(rt, alloc, store, &queue, second);
     let kept = held_bytes(alloc, reader);
-    let after = references(rt, store);
+    let after = expiry_tables(&store.lock(rt));
     Ok(Merges {
         share: count,
         is_complete: is_complete && follows && installs.is_complete,
@@ -228,23 +210,11 @@ where
     })
 }
 
-/// The book of a store, which is let go.
-pub(crate) fn book_of<F, C, S>(store: Store<Forest<F, Global>, C, Global, S>) -> u64
-where
-    F: AllRows + Drop,
-    C: StoredCopies + Drop,
-    S: StoreName,
-{
-    let book = store.book();
-    store.close();
-    book
-}
-
-/// A client, a compactor and a query worker at a store, one after another.
-pub fn take_turns<T, C, V, S, R>(
+/// A client, a compactor and a query worker at a store, one after another. Ends the store.
+pub(crate) fn take_turns<T, C, V, S, R>(
     rt: &R,
     alloc: Global,
-    store: StoreOf<T, C, Global, S>,
+    shared: SharedStore<T, C, Global, S>,
     share: Share<S>,
     reader: WatchedReader<V, S>,
     work: &[Work],
@@ -257,12 +227,12 @@ where
     S: StoreName,
     R: Wait,
 {
-    let lock = Mutex::new(SharedStore::new(store));
+    let lock = Mutex::new(shared);
     let mut reader = reader;
     let merges = merge_in_turn(rt, alloc, &lock, share, &mut reader, work);
     let gate = CountingGate::new();
     let asked = query_worker(alloc, reader, asks, 2, &gate);
-    let book = book_of(lock.into_inner().into_store());
+    let book = end(lock.into_inner());
     match merges {
         Ok(merges) => Some(Turns {
             merges,

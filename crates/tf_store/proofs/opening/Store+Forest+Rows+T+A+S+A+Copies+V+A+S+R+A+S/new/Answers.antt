@@ -1,4 +1,4 @@
-use Rattle.std.proofs.Common.{◌≡◌, ◌∙◌, ◌≤◌, [], ap, subst, sym}
+use Rattle.std.proofs.Common.{◌≡◌, ◌∙◌, [], ap, subst, sym}
 use Rattle.std.specs.Prelude.{IfOk, vec_len}
 use Rattle.std.specs.List.{All}
 use Rattle.left_right.specs.Handles.{published}
@@ -52,9 +52,9 @@ returns-clause-shares g c =
 pub returns-clause-readers : goal.returns-clause-readers
 returns-clause-readers g c =
     let empty = c.new-page.ensures ∙ c.front.ensures ∙ ap (λ (w : Written). w.journal) c.in-Ok.ensures.names.1 in
-    carried c.open-opened.result c.over_made.result (λ o. o.1) (λ r. r.2) (λ h. (vec_len h ≤ c.args.readers) × All (HasSeen []) h.items)
+    carried c.open-opened.result c.over_made.result (λ o. o.1) (λ r. r.2) (λ h. (vec_len h ≡ c.args.readers) × All (HasSeen []) h.items)
     c.over_made.ensures.opened c.over_made.ensures.beside
-    (both_ok c.open-opened.result (λ o. vec_len o.1 ≤ c.args.readers) (λ o. All (HasSeen []) o.1.items) c.open-opened.ensures.count
+    (both_ok c.open-opened.result (λ o. vec_len o.1 ≡ c.args.readers) (λ o. All (HasSeen []) o.1.items) c.open-opened.ensures.count
     (subst (λ l. IfOk c.open-opened.result (λ o. All (HasSeen l) o.1.items)) empty c.open-opened.ensures.readers))
 
 pub returns-clause-refusal : goal.returns-clause-refusal
