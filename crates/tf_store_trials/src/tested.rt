@@ -96,26 +96,6 @@ where
         (shares, readers, taken)
     }
 
-    /// Makes a call.
-    fn answer(&mut self, call: Call<'_>) -> Answered {
-        match call {
-            Call::Run(share, command) => Answered::Ran(self.run(share, command)),
-            Call::Publish(learner) => Answered::Published(self.publish(learner)),
-            Call::Act(act) => Answered::Acted(self.act(act)),
-            Call::Ask(whom, plain) => Answered::Asked(self.ask(whom, plain)),
-            Call::Compare(plain, ids) => Answered::Compared(is_store_alike(self.store, plain, ids)),
-            Call::Count(share) => Answered::Counted(self.counted(share)),
-        }
-    }
-
-    /// Runs a batch or a pulse, and no other command.
-    fn run(&mut self, share: usize, command: &Command<Global>) -> Outcome {
-        match self.shares.get_mut(share) {
-            Some(share) => run(self.lists, self.store, share, command),
-            None => Ok(Answer::Nothing),
-        }
-    }
-
     fn publish(&mut self, learner: Option<usize>) -> Result<Vec<Told, Global>, Refusal> {
         let published = self.store.publish(self.rt);
         told(self.lists, published, &mut self.readers, learner)
@@ -133,7 +113,16 @@ where
             Act::Install => install(self.rt, self.store, &mut self.merged),
         }
     }
+}
 
+impl<'s, T, C, V, A, S, R> Tested<'s, T, C, V, A, S, R>
+where
+    T: MutableRows + Drop,
+    C: StoredCopies + Drop,
+    V: Publishable + Drop,
+    A: Allocator + Copy,
+    S: StoreName,
+{
     fn ask(&self, whom: Whom, plain: &Plain) -> Tally {
         match whom {
             Whom::Taken(place) => answers_of(self.lists, self.taken.get(place), plain),
@@ -162,7 +151,34 @@ where
     R: Wait,
 {
     fn call(&mut self, call: Call<'_>) -> Answered {
-        self.answer(call)
+        match call {
+            Call::Run(share, command) => Answered::Ran(run_at(
+                self.lists,
+                self.store,
+                &mut self.shares,
+                share,
+                command,
+            )),
+            Call::Publish(learner) => Answered::Published(self.publish(learner)),
+            Call::Act(act) => Answered::Acted(self.act(act)),
+            Call::Ask(whom, plain) => Answered::Asked(self.ask(whom, plain)),
+            Call::Compare(plain, ids) => Answered::Compared(is_store_alike(self.store, plain, ids)),
+            Call::Count(share) => Answered::Counted(self.counted(share)),
+        }
+    }
+}
+
+/// Runs a batch or a pulse with the share at this place, and no other command.
+fn run_at<R: AllRows + Drop, C: StoredCopies + Drop, A: Allocator + Copy, S: StoreName>(
+    lists: Global,
+    store: &mut Store<Forest<R, A>, C, A, S>,
+    shares: &mut Vec<Share<S>, A>,
+    share: usize,
+    command: &Command<Global>,
+) -> Outcome {
+    match shares.get_mut(share) {
+        Some(share) => run(lists, store, share, command),
+        None => Ok(Answer::Nothing),
     }
 }
 
@@ -204,26 +220,29 @@ where
     A: Allocator + Copy,
     S: StoreName,
 {
+    let (entries, rows) = entries_of(store);
     Counted {
         facts: store.facts(),
         registered: store.registered(),
         rows_sealed: store.rows_sealed(),
         rows_held: store.rows_held(),
-        references: references_of(store.forest().rows()),
-        ..entries_of(store)
+        references: references_of(rows),
+        ..entries
     }
 }
 
-/// What of that its entries tell.
+/// What of that its entries tell, and its rows. A store's type is compared once for both.
 fn entries_of<R: AllRows + Drop, C: StoredCopies + Drop, A: Allocator + Copy, S: StoreName>(
     store: &Store<Forest<R, A>, C, A, S>,
-) -> Counted {
-    Counted {
+) -> (Counted, &R) {
+    let forest = store.forest();
+    let entries = Counted {
         book: store.book(),
         failed: store.failed_book(),
-        clock: store.forest().clock(),
+        clock: forest.clock(),
         ..Counted::NOTHING
-    }
+    };
+    (entries, forest.rows())
 }
 
 /// The tables of each row.

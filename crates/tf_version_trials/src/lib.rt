@@ -5,9 +5,9 @@
 #![tactic(auto)]
 
 mod asking;
-mod forested;
 mod resting;
 mod taken;
+mod tried;
 mod turns;
 
 pub use taken::{TakenVersion, are_answered, let_go, take_version};

@@ -1,11 +1,9 @@
 //! A version of which many queries are asked at once. This crate doesn't ask them so, which takes threads.
-ghost use Rattle.tf_rows.specs.Nest.{AreEmpty};
-ghost use Rattle.tf_rows.specs.Parts.{parts_of};
 ghost use Rattle.tf_manifest.specs.Registries.{AreShelves};
 
 use crate::asking::answered;
-use crate::forested::Forested;
 use crate::resting::Resting;
+use crate::tried::{Lent, TriedForest};
 use std::alloc::{Allocator, Global};
 use std::sync::Wait;
 use tf_forest_trials::{
@@ -22,43 +20,16 @@ use tf_trials::Plain;
 /// A version of an empty forest, once it ran a journal.
 pub type TakenVersion<A, N> = Taken<Version<A, N>>;
 
-fn take_of_forest<T, A, N, R>(
+/// Runs a journal on a forest that is lent, takes a version, and gives queries of it.
+fn take_of_forest<F: TriedForest, R: Wait>(
     rt: &R,
     lists: Global,
-    alloc: A,
-    forest: &mut Resting<T, A, N>,
+    plain: &mut Plain,
+    forest: &mut F,
     asked: AtOnce,
-) -> Result<TakenVersion<A, N>, Refusal>
-where
-    T: SealRows<A> + Drop,
-    A: Allocator + Copy,
-    N: Naming,
-    R: Wait,
-{
-    let mut plain = Plain::new(lists);
-    let mut forested = Forested::new(rt, lists, alloc, forest);
-    let queries = take_for_queries(lists, &mut plain, &mut forested, asked);
-    all_taken(forested.into_version(), plain, queries)
-}
-
-fn take_from_rows<T, A, N, R>(
-    rt: &R,
-    lists: Global,
-    alloc: A,
-    rows: tf_publish::Rows<T, A, N>,
-    asked: AtOnce,
-) -> Result<TakenVersion<A, N>, Refusal>
-where
-    T: SealRows<A> + Drop,
-    A: Allocator + Copy,
-    N: Naming,
-    R: Wait,
-    requires { AreEmpty (parts_of (T.entries rows.fresh) rows.published.tables) }
-{
-    let mut forest = Resting::new(alloc, rows);
-    let taken = take_of_forest(rt, lists, alloc, &mut forest, asked);
-    drop(forest);
-    taken
+) -> Result<Vec<Query, Global>, Refusal> {
+    let mut lent = Lent { rt, lists, forest };
+    take_for_queries(lists, plain, &mut lent, asked)
 }
 
 /// Takes a version of a forest of its own, which is let go.
@@ -76,8 +47,12 @@ where
     R: Wait,
     requires { AreShelves N.shelf registries.now }
 {
-    let rows: tf_publish::Rows<T, A, N> = tf_publish::Rows::new(alloc, registries)?;
-    take_from_rows(rt, lists, alloc, rows, asked)
+    let mut forest = Resting::<T, A, N>::empty(lists, alloc, registries)?;
+    let mut plain = Plain::new(lists);
+    let queries = take_of_forest(rt, lists, &mut plain, &mut forest, asked);
+    let version = forest.last_version();
+    drop(forest);
+    all_taken(version, plain, queries)
 }
 
 /// Lets go of a version.
@@ -95,7 +70,7 @@ fn is_one_answered<A: Allocator, N: Naming>(
     let question = Command::<Global>::Query(*query);
     let expected = ask_plain(alloc, taken.plain.ledger(), &question);
     let together: Outcome<Global> = Ok(Some(rows));
-    let alone = answered(alloc, Some(&taken.version), &question, &expected);
+    let alone = answered(alloc, &taken.version, &question, &expected);
     is_same_outcome(&together, &expected) && matches!(alone, Asked::Expected)
 }
 
