@@ -30,7 +30,7 @@ use tf_table::Key;
 /// A ledger over 21 rows, with a note for each entry that isn't kept, which takes no memory of its own.
 ///
 /// Its journal is the one that the rows spell. Contracts see the journal, the clock and the kept length. A look-up takes a
-/// few look-ups in rows, whatever the journal's length, and that of an account in use one search of a tree beside them. It
+/// few look-ups in rows, whatever the journal's length, and that of an account in use one in a hash map beside them. It
 /// holds 65,536 accounts at most, and where memory for one is refused it does without.
 #[derive(Drop)]
 pub struct Forest<S: AllRows + Drop, A: Allocator + Copy> {

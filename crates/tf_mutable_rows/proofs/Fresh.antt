@@ -309,18 +309,26 @@ module _ (inside view : Fresh) (is : inside ≡ view) (r : Row) (k : Kind) (of :
         ∙ ap (seen_rows (value_by (kind_of other))) (elsewhere inside k (kind_of other) rows (λ e. apart_by r other apart (e ∙ of)))
         ∙ ap (λ (fresh : Fresh). entries_by fresh other) is
 
+    -- `told` is how what a put tells is seen as what any row may have had
+    pub puts_told : {X : Type 0} (told : X → Option (Option Value)) (key : Key) (entry : Option Value) (result : Result X Refusal)
+        → OnOk result (seen_rows (value_by k) rows ≡ with_row key_cmp key entry (seen_rows (value_by k) old))
+        → OnOk result (IsSome (entry_at key (seen_rows (value_by k) rows)))
+        → IfOk result (λ before. given_back key (told before) (seen_rows (value_by k) rows) ≡ seen_rows (value_by k) old)
+        → IfOk result (λ before. PutsEntry r key entry (told before) (entries_by view) (entries_by new))
+    puts_told told key entry (Ok before) put some restores = record {
+      here = changed_here ∙ put ∙ ap (with_row key_cmp key entry) read;
+      there = subst (λ (all : List (Key × Option Value)). IsSome (entry_at key all)) (sym changed_here) some;
+      restores = ap (given_back key (told before)) changed_here ∙ restores ∙ read;
+      elsewhere = changed_elsewhere;
+    }
+    puts_told told key entry (Err refusal) put some restores = tt
+
     pub puts : (key : Key) (entry : Option Value) (result : Result (Option (Option Value)) Refusal)
         → OnOk result (seen_rows (value_by k) rows ≡ with_row key_cmp key entry (seen_rows (value_by k) old))
         → OnOk result (IsSome (entry_at key (seen_rows (value_by k) rows)))
         → IfOk result (λ before. given_back key before (seen_rows (value_by k) rows) ≡ seen_rows (value_by k) old)
         → IfOk result (λ before. PutsEntry r key entry before (entries_by view) (entries_by new))
-    puts key entry (Ok before) put some restores = record {
-      here = changed_here ∙ put ∙ ap (with_row key_cmp key entry) read;
-      there = subst (λ (all : List (Key × Option Value)). IsSome (entry_at key all)) (sym changed_here) some;
-      restores = ap (given_back key before) changed_here ∙ restores ∙ read;
-      elsewhere = changed_elsewhere;
-    }
-    puts key entry (Err refusal) put some restores = tt
+    puts = puts_told (λ before. before)
 
     pub gives_back : (key : Key) (before : Option (Option Value)) → seen_rows (value_by k) rows ≡ given_back key before (seen_rows (value_by k) old)
         → GivesBack r key before (entries_by view) (entries_by new)
@@ -329,6 +337,6 @@ module _ (inside view : Fresh) (is : inside ≡ view) (r : Row) (k : Kind) (of :
     pub unchanged : rows ≡ old → entries_by new ≡ entries_by view
     unchanged same = ap entries_by (becomes ∙ ap (with_fresh inside k) (same ∙ sym has) ∙ with_same inside k ∙ is)
 
-    pub keeps : (result : Result (Option (Option Value)) Refusal) → OnErr result (rows ≡ old) → OnErr result (entries_by new ≡ entries_by view)
+    pub keeps : {X : Type 0} (result : Result X Refusal) → OnErr result (rows ≡ old) → OnErr result (entries_by new ≡ entries_by view)
     keeps (Ok before) same = tt
     keeps (Err refusal) same = unchanged same

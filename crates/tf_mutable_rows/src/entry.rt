@@ -29,6 +29,26 @@ pub(crate) fn entry_in<V: Held, M: MutableTable<V, A>, A: Allocator + Clone>(
     }
 }
 
+/// Gives a key a stored entry, and tells the one that it had.
+///
+/// The only refusal is `NoMemory`, and it changes nothing.
+pub(crate) fn put_stored<V: Held, M: MutableTable<V, A>, A: Allocator + Clone>(
+    table: &mut M,
+    key: Key,
+    stored: Option<V>,
+) -> Result<Option<Option<V>>, Refusal>
+    requires { M.takes key (M.rows table.old) }
+    ensures rows { OnOk result (seen_rows V.seen (M.rows table.new) ≡ with_row key_cmp key (option_map V.seen stored) (seen_rows V.seen (M.rows table.old))) }
+    ensures there { OnOk result (IsSome (entry_at key (seen_rows V.seen (M.rows table.new)))) }
+    ensures restores { IfOk result (λ before. given_back key (option_map (option_map V.seen) before) (seen_rows V.seen (M.rows table.new)) ≡ seen_rows V.seen (M.rows table.old)) }
+    ensures err { OnErr result (M.rows table.new ≡ M.rows table.old) }
+    ensures refusal { IfErr result (λ refusal. refusal ≡ Refusal.NoMemory) }
+{
+    // Only the length call tells that the keys rise.
+    let _rows = table.len();
+    table.put(key, stored)
+}
+
 /// Gives a key an entry, and tells the one that it had.
 ///
 /// The only refusal is `NoMemory`, and it changes nothing.
@@ -46,10 +66,8 @@ pub(crate) fn put_entry<V: Held, M: MutableTable<V, A>, A: Allocator + Clone>(
     ensures err { OnErr result (M.rows table.new ≡ M.rows table.old) }
     ensures refusal { IfErr result (λ refusal. refusal ≡ Refusal.NoMemory) }
 {
-    // Only the length call tells that the keys rise.
-    let _rows = table.len();
     let stored = stored_entry(entry);
-    let before = table.put(key, stored)?;
+    let before = put_stored(table, key, stored)?;
     Ok(seen_before(before))
 }
 

@@ -1,16 +1,16 @@
 //! The mutable tables of the 21 rows.
-ghost use Rattle.std.specs.Prelude.{◌≡◌, ◌<◌, ℕ, [], None, length, slice_index_or, slice_set, IsSome, IfSome, IfNone, IfOk, IfErr, OnOk, OnErr};
+ghost use Rattle.std.specs.Prelude.{◌≡◌, ◌<◌, ℕ, [], None, Some, length, slice_index_or, slice_set, IsSome, IfSome, IfNone, IfOk, IfErr, OnOk, OnErr};
 ghost use Rattle.tf_sorted.specs.Rows.{with_row};
 ghost use Rattle.tf_mutable_rows.specs.Fresh.{entries_by};
 ghost use Rattle.tf_rows.specs.Held.{unit_held};
-ghost use Rattle.tf_rows.specs.Parts.{seen_rows};
+ghost use Rattle.tf_rows.specs.Parts.{seen_before, seen_rows};
 ghost use Rattle.tf_manifest.specs.Kinds.{unit_index};
 ghost use Rattle.tf_manifest.specs.declared.value.Value.{Value};
 ghost use Rattle.tf_table.specs.Content.{entry_at};
 ghost use Rattle.tf_table.specs.Key.{key_cmp};
 ghost use Rattle.tf_mutable.specs.Mutable.{given_back};
 
-use crate::entry::{entry_in, put_entry, take_back};
+use crate::entry::{entry_in, put_entry, put_stored, take_back};
 use std::alloc::Allocator;
 use std::marker::Model;
 use tf_btree::Tree;
@@ -94,6 +94,24 @@ fn put_in_one<A: Allocator + Clone>(
     put_entry(&mut indexes[place], key, entry)
 }
 
+/// Gives one of several indexes a key, as `put_stored` does.
+fn put_key_in_one<A: Allocator + Clone>(
+    indexes: &mut [Log<(), A>],
+    place: usize,
+    key: Key,
+) -> Result<Option<Option<()>>, Refusal>
+    requires there { place < length indexes.old }
+    requires takes { entry_at key (slice_index_or indexes.old place []) ≡ None }
+    ensures others { indexes.new ≡ slice_set indexes.old place (slice_index_or indexes.new place []) }
+    ensures rows { OnOk result (seen_rows (λ nothing. Value.Unit) (slice_index_or indexes.new place []) ≡ with_row key_cmp key (Some Value.Unit) (seen_rows (λ nothing. Value.Unit) (slice_index_or indexes.old place []))) }
+    ensures there { OnOk result (IsSome (entry_at key (seen_rows (λ nothing. Value.Unit) (slice_index_or indexes.new place [])))) }
+    ensures restores { IfOk result (λ before. given_back key (seen_before before) (seen_rows (λ nothing. Value.Unit) (slice_index_or indexes.new place [])) ≡ seen_rows (λ nothing. Value.Unit) (slice_index_or indexes.old place [])) }
+    ensures err { OnErr result (slice_index_or indexes.new place [] ≡ slice_index_or indexes.old place []) }
+    ensures refusal { IfErr result (λ refusal. refusal ≡ Refusal.NoMemory) }
+{
+    put_stored(&mut indexes[place], key, Some(()))
+}
+
 /// Gives a key of one of several indexes the entry back that `put_in_one` told, or none. It takes no memory.
 fn take_back_in_one<A: Allocator + Clone>(
     indexes: &mut [Log<(), A>],
@@ -168,6 +186,16 @@ impl<A: Allocator + Clone> MutableRows for MutableTables<A> {
             Kind::State => put_entry(&mut self.account_sums, key, entry),
             Kind::Sums => put_entry(&mut self.history, key, entry),
             Kind::Status => put_entry(&mut self.pending_status, key, entry),
+        }
+    }
+
+    fn put_key(&mut self, row: Row, key: Key) -> Result<Option<Option<()>>, Refusal> {
+        match row.kind() {
+            Kind::Unit(row) => match index_place(row) {
+                Some(place) => put_key_in_one(self.indexes.as_mut_slice(), place, key),
+                None => put_stored(&mut self.expiry, key, Some(())),
+            },
+            _ => unreachable!(),
         }
     }
 

@@ -63,6 +63,10 @@ impl<F: MutableRows + Drop, A: Allocator, N: Naming> RowSet for Rows<F, A, N> {
         self.fresh.put(row, key, entry)
     }
 
+    fn put_key(&mut self, row: Row, key: Key) -> Result<Option<Option<()>>, Refusal> {
+        self.fresh.put_key(row, key)
+    }
+
     fn take_back(&mut self, row: Row, key: &Key, before: Before) {
         self.fresh.take_back(row, key, before);
     }

@@ -15,6 +15,7 @@ pub mod PartiesAfter
 pub mod Parts
 pub mod Stepping
 pub mod Touched
+pub mod Made
 pub mod Next
 pub mod InRange
 pub mod Listed
@@ -27,4 +28,3 @@ pub mod BelowFloors
 pub mod KeyWalks
 pub mod HeldKeys
 pub mod Added
-pub mod HeldAccounts

@@ -1,6 +1,5 @@
--- A transfer's changes as a list of which some may be absent.
-use Rattle.std.proofs.Common.{◌≡◌, List, [], ◌∷◌, ◌++◌, map, Option, Some, None, refl, sym, ◌∙◌, ap, append_assoc}
-use Rattle.std.specs.List.{flat_map}
+-- A transfer's changes, part by part, some of which may be absent.
+use Rattle.std.proofs.Common.{◌≡◌, List, [], ◌++◌, map, Option, Some, None, refl, sym, ◌∙◌, ap, append-nil, append_assoc}
 use Rattle.std.specs.Option.{option_map, option_map_or}
 use Rattle.std.proofs.lemmas.List.{map-append}
 use Rattle.tf_records.specs.declared.transfer.Transfer.{Transfer}
@@ -14,18 +13,18 @@ use Rattle.tf_rows.specs.declared.change.Change.{Change}
 use Rattle.tf_rows.specs.declared.found.Found.{Found}
 use Rattle.tf_rows.specs.declared.found.Party.{Party}
 use Rattle.tf_rows.specs.Changes.{listed}
-use Rattle.tf_rows.specs.Edits.{Edit, expiry_edits, history_edit, nothing_found, party_after, state_after, state_edit, status_edits, transfer_edits}
+use Rattle.tf_rows.specs.Made.{index_changes}
+use Rattle.tf_rows.specs.Edits.{Edit, history_edit, party_after, state_after, state_edit, transfer_edits}
 use Rattle.tf_rows.specs.Next.{change_of, changes_by}
 
 -- the changes of a row, by two changes that may be absent
-two_listed : (r : Row) (xs ys : List Edit) (a b : Option Change) (rest : List Change)
+two_listed : (r : Row) (xs ys : List Edit) (a b : Option Change)
     → listed a ≡ map (change_of r) xs → listed b ≡ map (change_of r) ys
-    → listed a ++ (listed b ++ rest) ≡ map (change_of r) (xs ++ ys) ++ rest
-two_listed r xs ys a b rest first second =
-    ap (λ (cs : List Change). cs ++ (listed b ++ rest)) first
-    ∙ ap (λ (cs : List Change). map (change_of r) xs ++ (cs ++ rest)) second
-    ∙ sym (append_assoc (map (change_of r) xs) (map (change_of r) ys) rest)
-    ∙ ap (λ (cs : List Change). cs ++ rest) (sym (map-append (change_of r) xs ys))
+    → listed a ++ listed b ≡ map (change_of r) (xs ++ ys)
+two_listed r xs ys a b first second =
+    ap (λ (cs : List Change). cs ++ listed b) first
+    ∙ ap (λ (cs : List Change). map (change_of r) xs ++ cs) second
+    ∙ sym (map-append (change_of r) xs ys)
 
 -- an account after a change has the state that the change gives it
 state_of_after : (change : State → State) (o : Option Party)
@@ -61,50 +60,45 @@ history_listed t change before after a is has =
     ∙ ap (λ (o : Option Party). map (change_of row.History) (option_map_or (history_edit t (λ state. state)) o [])) is
     ∙ ap (map (change_of row.History)) (history_of_after t change before)
 
--- the changes of a transfer's own keys
-abbrev own_rows : List Row
-own_rows =
-    row.TransferObjects
-    ∷ row.TransferIds
-    ∷ row.TransferDebit
-    ∷ row.TransferCredit
-    ∷ row.TransferUserData128
-    ∷ row.TransferUserData64
-    ∷ row.TransferUserData32
-    ∷ row.TransferLedger
-    ∷ row.TransferCode
-    ∷ []
-
-abbrev pub own_changes : Transfer → List Change
-own_changes t = flat_map (λ r. map (change_of r) (transfer_edits nothing_found t r)) own_rows
-
 -- a transfer's changes: its parts one after another
-module _ (found : Found) (t : Transfer) (debit credit : Option Party) (debit_state credit_state s e debit_history credit_history : Option Change) where
+module _ (found : Found) (t : Transfer) where
   abbrev change_on : Side → State → State
   change_on side = state_after side t found.settled
 
-  pub transfer_listed : debit ≡ option_map (party_after (state_after Debit t found.settled)) found.debit
-      → credit ≡ option_map (party_after (state_after Credit t found.settled)) found.credit
-      → IsStateOf debit_state debit
-      → IsStateOf credit_state credit
-      → listed s ≡ map (change_of row.PendingStatus) (status_edits t found.settled)
-      → listed e ≡ map (change_of row.Expiry) (expiry_edits t found.settled)
-      → IsHistoryOf t debit_history debit
-      → IsHistoryOf t credit_history credit
-      → listed debit_state ++ (listed credit_state ++ (own_changes t ++ (listed s ++ (listed e ++ (listed debit_history ++ (listed credit_history ++ []))))))
-      ≡ changes_by found (entry.Transfer t)
-  transfer_listed debit_is credit_is ds cs ss es dh ch =
-      let debits = option_map_or (state_edit (change_on Debit)) found.debit [] in
-      let credits = option_map_or (state_edit (change_on Credit)) found.credit [] in
-      let debits_then = option_map_or (history_edit t (change_on Debit)) found.debit [] in
-      let credits_then = option_map_or (history_edit t (change_on Credit)) found.credit [] in
-      two_listed row.AccountSums debits credits debit_state credit_state (own_changes t ++ (listed s ++ (listed e ++ (listed debit_history ++ (listed credit_history ++ [])))))
-      (state_listed (change_on Debit) found.debit debit debit_state debit_is ds)
-      (state_listed (change_on Credit) found.credit credit credit_state credit_is cs)
-      ∙ ap (λ (ls : List Change). map (change_of row.AccountSums) (debits ++ credits) ++ (own_changes t ++ ls))
-      (ap (λ (ls : List Change). ls ++ (listed e ++ (listed debit_history ++ (listed credit_history ++ [])))) ss
-      ∙ ap (λ (ls : List Change). map (change_of row.PendingStatus) (status_edits t found.settled) ++ (ls ++ (listed debit_history ++ (listed credit_history ++ [])))) es
-      ∙ ap (λ (ls : List Change). map (change_of row.PendingStatus) (status_edits t found.settled) ++ (map (change_of row.Expiry) (expiry_edits t found.settled) ++ ls))
-      (two_listed row.History debits_then credits_then debit_history credit_history []
-      (history_listed t (change_on Debit) found.debit debit debit_history debit_is dh)
-      (history_listed t (change_on Credit) found.credit credit credit_history credit_is ch)))
+  abbrev of_row : Row → List Change
+  of_row r = map (change_of r) (transfer_edits found t r)
+
+  -- the states of its accounts, its record with its id, the status and the expiry of the pending transfer that it is or settles,
+  -- and the history of its accounts
+  abbrev pub state_changes : List Change
+  state_changes = of_row row.AccountSums
+
+  abbrev pub record_changes : List Change
+  record_changes = of_row row.TransferObjects ++ of_row row.TransferIds
+
+  abbrev pub pending_changes : List Change
+  pending_changes = of_row row.PendingStatus ++ of_row row.Expiry
+
+  abbrev pub history_changes : List Change
+  history_changes = of_row row.History
+
+  pub in_parts : changes_by found (entry.Transfer t) ≡ state_changes ++ (record_changes ++ (index_changes t ++ (pending_changes ++ history_changes)))
+  in_parts =
+      ap (λ (cs : List Change). state_changes ++ (record_changes ++ (index_changes t ++ cs)))
+      (ap (λ (cs : List Change). of_row row.PendingStatus ++ (of_row row.Expiry ++ cs)) (append-nil history_changes)
+      ∙ sym (append_assoc (of_row row.PendingStatus) (of_row row.Expiry) history_changes))
+
+  -- those of both accounts, by what they are after it
+  module _ (debit credit : Option Party) (debit_is : debit ≡ option_map (party_after (state_after Debit t found.settled)) found.debit)
+      (credit_is : credit ≡ option_map (party_after (state_after Credit t found.settled)) found.credit) (a b : Option Change) where
+    pub states_listed : IsStateOf a debit → IsStateOf b credit → listed a ++ listed b ≡ state_changes
+    states_listed first second =
+        two_listed row.AccountSums (option_map_or (state_edit (change_on Debit)) found.debit []) (option_map_or (state_edit (change_on Credit)) found.credit []) a b
+        (state_listed (change_on Debit) found.debit debit a debit_is first)
+        (state_listed (change_on Credit) found.credit credit b credit_is second)
+
+    pub histories_listed : IsHistoryOf t a debit → IsHistoryOf t b credit → listed a ++ listed b ≡ history_changes
+    histories_listed first second =
+        two_listed row.History (option_map_or (history_edit t (change_on Debit)) found.debit []) (option_map_or (history_edit t (change_on Credit)) found.credit []) a b
+        (history_listed t (change_on Debit) found.debit debit a debit_is first)
+        (history_listed t (change_on Credit) found.credit credit b credit_is second)

@@ -7,6 +7,7 @@ pub mod Parts
 pub mod Changes
 pub mod Packed
 pub mod Next
+pub mod Made
 pub mod Range
 pub mod Nest
 pub mod Floors

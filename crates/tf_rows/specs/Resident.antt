@@ -1,13 +1,12 @@
 -- Accounts that are held beside the rows: what is held is right, and what an entry makes of it.
-use Rattle.std.specs.Prelude.{◌≡◌, ◌==◌, ℕ, List, Option, Some, None, if◌then◌else◌}
-use Rattle.std.specs.Ordering.{nat_cmp}
+use Rattle.std.specs.Prelude.{◌≡◌, ◌==◌, ℕ, List, Option, Some, None, if◌then◌else◌, nat_eq}
+use Rattle.std.specs.Map.{lookup}
 use Rattle.std.specs.Option.{option_and_then, option_map, option_map_or}
 use Rattle.tf_records.specs.declared.account.Account.{Account}
 use Rattle.tf_journal.specs.declared.entry.Entry.{Entry}
 use Rattle.tf_journal.specs.declared.entry.Entry.TheVariants as entry
 use Rattle.tf_journal.specs.declared.side.Side.{Side}
 use Rattle.tf_journal.specs.declared.side.Side.TheVariants.{Debit, Credit}
-use Rattle.tf_sorted.specs.Rows.{value_at}
 use Rattle.tf_manifest.specs.declared.value.State.{State}
 use Rattle.tf_rows.specs.declared.former.Former.{Former}
 use Rattle.tf_rows.specs.declared.former.Formers.{Formers}
@@ -21,7 +20,7 @@ Accounts = ℕ → Option Party
 
 -- the account that is held under an id, if one is
 abbrev pub held_at : ℕ → List (ℕ × Party) → Option Party
-held_at id held = value_at nat_cmp id held
+held_at id held = lookup (nat_eq id) held
 
 -- each account that is held is right. What isn't held says nothing
 abbrev pub AreAmong : Accounts → List (ℕ × Party) → Type 0

@@ -13,7 +13,7 @@ ghost use Rattle.tf_rows.specs.Packed.{AreAdded};
 use crate::accounts::account_changes;
 use crate::expiries::expiry_changes;
 use crate::row_change::put;
-use crate::transfers::transfer_changes;
+use crate::transfers::add_transfer;
 use crate::{Change, Found, RowSet, Steps, make_changes, rows_show_the_next_entry};
 use std::alloc::Allocator;
 use tf_journal::Entry;
@@ -50,7 +50,7 @@ pub fn add_entry<S: RowSet, A: Allocator>(
     rows_show_the_next_entry();
     match entry {
         Entry::Account(account) => make_changes(rows, steps, &account_changes(account)),
-        Entry::Transfer(transfer) => make_changes(rows, steps, &transfer_changes(found, transfer)),
+        Entry::Transfer(transfer) => add_transfer(rows, steps, found, transfer),
         Entry::Expiry { timestamp, pending } => {
             make_changes(rows, steps, &expiry_changes(found, *timestamp, *pending))
         }

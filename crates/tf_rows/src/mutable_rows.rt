@@ -1,11 +1,11 @@
 //! Mutable tables of all rows, each of its own kind of value, that are found, written and taken back by their rows' names.
-ghost use Rattle.std.specs.Prelude.{◌≡◌, ◌⊎◌, None, IsTrue, IsSome, IfSome, IfOk, IfErr, OnErr};
+ghost use Rattle.std.specs.Prelude.{◌≡◌, ◌⊎◌, None, Some, IsTrue, IsSome, IfSome, IfOk, IfErr, OnErr};
 ghost use Rattle.tf_table.specs.Content.{entry_at};
 ghost use Rattle.tf_table.specs.declared.key.Key.{Key};
 ghost use Rattle.tf_manifest.specs.declared.row.Row.{Row};
 ghost use Rattle.tf_manifest.specs.declared.value.Value.{Value};
 ghost use Rattle.tf_rows.specs.Nest.{IsTree, fits_row};
-ghost use Rattle.tf_rows.specs.Parts.{Entries, GivesBack, PutsEntry};
+ghost use Rattle.tf_rows.specs.Parts.{Entries, GivesBack, PutsEntry, seen_before};
 
 use tf_manifest::{Row, Value};
 use tf_records::Refusal;
@@ -32,6 +32,14 @@ pub trait MutableRows {
         requires fits { IfSome entry.now (λ value. IsTrue (fits_row row value)) }
         ensures put { IfOk result (λ before. PutsEntry row key entry.now before (entries self.old) (entries self.new)) }
         ensures kind { IfOk result (λ before. IfSome before (λ entry. IfSome entry (λ value. IsTrue (fits_row row value)))) }
+        ensures err { OnErr result (entries self.new ≡ entries self.old) }
+        ensures refusal { IfErr result (λ refusal. refusal ≡ Refusal.NoMemory) };
+
+    /// Gives a key of a row that stores nothing beside its keys an entry, as `put` does, and tells the one that it had.
+    fn put_key(&mut self, row: Row, key: Key) -> Result<Option<Option<()>>, Refusal>
+        requires new { (entry_at key (entries self.old row) ≡ None) ⊎ IsTree row }
+        requires fits { IsTrue (fits_row row Value.Unit) }
+        ensures put { IfOk result (λ before. PutsEntry row key (Some Value.Unit) (seen_before before) (entries self.old) (entries self.new)) }
         ensures err { OnErr result (entries self.new ≡ entries self.old) }
         ensures refusal { IfErr result (λ refusal. refusal ≡ Refusal.NoMemory) };
 

@@ -2,7 +2,7 @@
 ghost use Rattle.std.specs.Prelude.{◌≡◌, ◌<◌, ◌++◌, ◌∷◌, [], List, length};
 ghost use Rattle.tf_rows.specs.Edits.{found_for, party_of};
 ghost use Rattle.tf_rows.specs.Range.{LeavesInRange};
-ghost use Rattle.tf_rows.specs.Resident.{Accounts, AreAmong, accounts_after, accounts_before, formers_of, held_at, with_any, with_party, without_any, without_change};
+ghost use Rattle.tf_rows.specs.Resident.{Accounts, AreAmong, accounts_after, accounts_before, held_at, with_any, with_party, without_any, without_change};
 ghost use Rattle.tf_journal.specs.declared.entry.Entry.{Entry};
 ghost use Rattle.tf_journal.specs.Lawful.{IsSound};
 ghost use Rattle.tf_journal.specs.Ledger.{CanGrow};
@@ -13,20 +13,21 @@ use crate::former::{Former, Formers};
 use crate::laws::accounts_change_as_found;
 use crate::{Found, Party};
 use std::alloc::Allocator;
+use std::collections::HashMap;
+use std::hash::{BuildHasherDefault, FoldHasher};
 use std::marker::Model;
-use tf_btree::Tree;
 use tf_journal::{Entry, Side};
 
-/// How many accounts are held at most: some fifteen megabytes.
+/// How many accounts are held at most: some fifteen megabytes, for which the map takes up to twice as much.
 const MOST: usize = 65_536;
 
-/// Accounts in use with their present states, by their ids, so that a look-up of one asks no row.
+/// Accounts in use with their present states, by their ids in a hash map, so that a look-up of one asks no row.
 ///
 /// What is held is what the journal says. What isn't held is looked up in the rows: an account enters when an entry of its
 /// own or a transfer of it is added, if there is a place and memory for it. Contracts see the list of what is held.
 #[derive(Drop)]
 pub struct Resident<A: Allocator> {
-    accounts: Tree<u128, Party, A>,
+    accounts: HashMap<u128, Party, BuildHasherDefault<FoldHasher>, A>,
 }
 
 impl<A: Allocator> Model for Resident<A> {
@@ -35,9 +36,9 @@ impl<A: Allocator> Model for Resident<A> {
 
     ghost Value = { List (ℕ × Party) };
 
-    ghost view = { λ r. r.accounts };
+    ghost view = { λ r. r.accounts.entries };
 
-    ghost invariant = { λ r. length r.accounts ≤ 65536 };
+    ghost invariant = { λ r. length r.accounts.entries ≤ 65536 };
 }
 
 impl<A: Allocator + Clone> Resident<A> {
@@ -46,11 +47,11 @@ impl<A: Allocator + Clone> Resident<A> {
         ensures { result ≡ [] }
     {
         Resident {
-            accounts: Tree::new_in(alloc),
+            accounts: HashMap::new(alloc),
         }
     }
 
-    /// The account that is held under an id, if one is: by one look-up in a tree.
+    /// The account that is held under an id, if one is: by one look-up in a hash map.
     pub fn get(&self, id: u128) -> Option<Party>
         ensures { result ≡ held_at id self.now }
     {
@@ -62,7 +63,11 @@ impl<A: Allocator + Clone> Resident<A> {
     fn put(&mut self, party: Party)
         ensures { (accounts : Accounts) → AreAmong accounts self.old → AreAmong (with_party party accounts) self.new }
     {
-        if self.accounts.len() >= MOST && self.get(party.account.id).is_none() {
+        if let Some(held) = self.accounts.get_mut(&party.account.id) {
+            *held = party;
+            return;
+        }
+        if self.accounts.len() >= MOST {
             return;
         }
         let _ = self.accounts.insert(party.account.id, party);
@@ -80,14 +85,12 @@ impl<A: Allocator + Clone> Resident<A> {
     fn restore(&mut self, former: &Former)
         ensures { (accounts : Accounts) → AreAmong accounts self.old → AreAmong (without_change former.now accounts) self.new }
     {
-        // Only the length call tells that the ids rise.
-        let _held = self.accounts.len();
         let Some(state) = former.state else {
             let _ = self.accounts.remove(&former.id);
             return;
         };
-        if let Some(party) = self.get(former.id) {
-            let _ = self.accounts.insert(former.id, Party { state, ..party });
+        if let Some(party) = self.accounts.get_mut(&former.id) {
+            party.state = state;
         }
     }
 
@@ -121,7 +124,7 @@ impl<A: Allocator + Clone> Resident<A> {
         }
     }
 
-    /// Holds the accounts of a new entry as they are after it, by what was looked up for it: by one search of a tree for
+    /// Holds the accounts of a new entry as they are after it, by what was looked up for it: by one look-up in a hash map for
     /// each of its accounts.
     pub fn after(&mut self, entry: &Entry, found: &Found)
         requires { LeavesInRange found.now entry.now }

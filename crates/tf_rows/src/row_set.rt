@@ -1,10 +1,10 @@
 //! Rows, each of its own kind of value, that are found, written and taken back by their names.
-ghost use Rattle.std.specs.Prelude.{◌≡◌, ◌⊎◌, Bool, None, IsTrue, IsSome, IfSome, IfOk, IfErr, OnErr};
+ghost use Rattle.std.specs.Prelude.{◌≡◌, ◌⊎◌, Bool, None, Some, IsTrue, IsSome, IfSome, IfOk, IfErr, OnErr};
 ghost use Rattle.tf_table.specs.Content.{entry_at};
 ghost use Rattle.tf_manifest.specs.declared.row.Row.{Row};
 ghost use Rattle.tf_manifest.specs.declared.value.Value.{Value};
 ghost use Rattle.tf_rows.specs.Counts.{Sealed};
-ghost use Rattle.tf_rows.specs.Parts.{IsPut, IsTakenBack, Parts, value_of_part};
+ghost use Rattle.tf_rows.specs.Parts.{IsPut, IsTakenBack, Parts, seen_before, value_of_part};
 
 use crate::Before;
 use tf_manifest::{Row, Value};
@@ -46,6 +46,17 @@ pub trait RowSet {
         requires fits { IfSome entry.now (λ value. IsTrue (fits row value)) }
         ensures put { IfOk result (λ before. IsPut row key entry.now before (parts self.old) (parts self.new)) }
         ensures kind { IfOk result (λ before. IfSome before (λ entry. IfSome entry (λ value. IsTrue (fits row value)))) }
+        ensures sealed { sealed self.new ≡ sealed self.old }
+        ensures err { OnErr result (parts self.new ≡ parts self.old) }
+        ensures refusal { IfErr result (λ refusal. refusal ≡ Refusal.NoMemory) };
+
+    /// Gives a key of a row that stores nothing beside its keys an entry, as `put` does, and tells the one that its mutable table
+    /// had. A value is nothing there, so none is handed on that has room for those of other rows.
+    fn put_key(&mut self, row: Row, key: Key) -> Result<Option<Option<()>>, Refusal>
+        requires has { IsTrue (has_row row) }
+        requires new { (entry_at key (parts self.old row).fresh ≡ None) ⊎ takes_any row }
+        requires fits { IsTrue (fits row Value.Unit) }
+        ensures put { IfOk result (λ before. IsPut row key (Some Value.Unit) (seen_before before) (parts self.old) (parts self.new)) }
         ensures sealed { sealed self.new ≡ sealed self.old }
         ensures err { OnErr result (parts self.new ≡ parts self.old) }
         ensures refusal { IfErr result (λ refusal. refusal ≡ Refusal.NoMemory) };

@@ -1,18 +1,24 @@
 //! What a transfer changes in rows.
-ghost use Rattle.std.specs.Prelude.{◌≡◌, map};
+ghost use Rattle.std.specs.Prelude.{◌≡◌, map, IfErr, OnOk, OnErr};
 ghost use Rattle.tf_journal.specs.declared.entry.Entry.{Entry};
 ghost use Rattle.tf_manifest.specs.declared.row.Row.{Row};
-ghost use Rattle.tf_rows.specs.Changes.{listed, present};
+ghost use Rattle.tf_rows.specs.Changes.{CanChangeAll, all_changed, listed};
 ghost use Rattle.tf_rows.specs.Edits.{expiry_edits, status_edits};
+ghost use Rattle.tf_rows.specs.Made.{AreMade, change_of_key, index_changes};
 ghost use Rattle.tf_rows.specs.Next.{change_of, changes_by};
+ghost use Rattle.tf_rows.specs.Packed.{AreAdded};
 ghost use Rattle.tf_rows.specs.Range.{MovesInRange};
 
 use crate::account_states::party_after;
-use crate::row_change::{expiry_change, history_change, index, put, state_change, status_change};
-use crate::{Change, Found};
+use crate::change::{IndexKey, make_keys, make_two};
+use crate::row_change::{
+    expiry_change, history_change, index_key, put, state_change, status_change,
+};
+use crate::{Change, Found, RowSet, Steps, take_steps};
+use std::alloc::Allocator;
 use tf_journal::{Side, Status, is_pending, is_post};
 use tf_manifest::{Row, Value};
-use tf_records::Transfer;
+use tf_records::{Refusal, Transfer};
 
 /// The status that a transfer gives the pending transfer that it settles, if one, or has itself where it is pending.
 fn status_after(transfer: &Transfer, settled: &Option<Transfer>) -> Option<Change>
@@ -37,35 +43,86 @@ fn expiry_after(transfer: &Transfer, settled: &Option<Transfer>) -> Option<Chang
     }
 }
 
-/// What a transfer changes, by what was looked up for it.
-pub(crate) fn transfer_changes(found: &Found, transfer: &Transfer) -> [Option<Change>; 15]
-    requires { MovesInRange found.now transfer.now }
-    ensures { present result ≡ changes_by found.now (Entry.Transfer transfer.now) }
+/// The keys that a transfer adds to the indexes.
+fn transfer_keys(transfer: &Transfer) -> [IndexKey; 7]
+    ensures { map change_of_key result ≡ index_changes transfer.now }
+{
+    let at = transfer.timestamp;
+    [
+        index_key(Row::TransferDebit, transfer.debit_account_id, at),
+        index_key(Row::TransferCredit, transfer.credit_account_id, at),
+        index_key(Row::TransferUserData128, transfer.user_data_128, at),
+        index_key(Row::TransferUserData64, transfer.user_data_64 as u128, at),
+        index_key(Row::TransferUserData32, transfer.user_data_32 as u128, at),
+        index_key(Row::TransferLedger, transfer.ledger as u128, at),
+        index_key(Row::TransferCode, transfer.code as u128, at),
+    ]
+}
+
+/// Makes what a transfer changes, one change after another, by what was looked up for it. Where one is refused, those before it
+/// stay made.
+fn make_transfer<S: RowSet, A: Allocator>(
+    rows: &mut S,
+    steps: &mut Steps<A>,
+    found: &Found,
+    transfer: &Transfer,
+) -> Result<(), Refusal>
+    requires range { MovesInRange found.now transfer.now }
+    requires can { CanChangeAll S.has_row S.fits S.takes_any (changes_by found.now (Entry.Transfer transfer.now)) (S.parts rows.old) }
+    ensures made { AreMade S.has_row S.fits S.takes_any (changes_by found.now (Entry.Transfer transfer.now)) result steps.old steps.new (S.parts rows.old) (S.parts rows.new) }
+    ensures sealed { S.sealed rows.new ≡ S.sealed rows.old }
 {
     let at = transfer.timestamp;
     let debit = party_after(Side::Debit, transfer, &found.settled, &found.debit);
     let credit = party_after(Side::Credit, transfer, &found.settled, &found.credit);
-    let debit_state = state_change(&debit);
-    let credit_state = state_change(&credit);
+    match make_two(rows, steps, &state_change(&debit), &state_change(&credit)) {
+        Ok(()) => {}
+        Err(refusal) => return Err(refusal),
+    }
+    let object = put(Row::TransferObjects, 0, at, Value::Transfer(*transfer));
+    let id = put(Row::TransferIds, transfer.id, 0, Value::Stamp(at));
+    match make_two(rows, steps, &object, &id) {
+        Ok(()) => {}
+        Err(refusal) => return Err(refusal),
+    }
+    match make_keys(rows, steps, &transfer_keys(transfer)) {
+        Ok(()) => {}
+        Err(refusal) => return Err(refusal),
+    }
     let status = status_after(transfer, &found.settled);
     let expiry = expiry_after(transfer, &found.settled);
+    match make_two(rows, steps, &status, &expiry) {
+        Ok(()) => {}
+        Err(refusal) => return Err(refusal),
+    }
     let debit_history = history_change(transfer, &debit);
     let credit_history = history_change(transfer, &credit);
-    [
-        debit_state,
-        credit_state,
-        put(Row::TransferObjects, 0, at, Value::Transfer(*transfer)),
-        put(Row::TransferIds, transfer.id, 0, Value::Stamp(at)),
-        index(Row::TransferDebit, transfer.debit_account_id, at),
-        index(Row::TransferCredit, transfer.credit_account_id, at),
-        index(Row::TransferUserData128, transfer.user_data_128, at),
-        index(Row::TransferUserData64, transfer.user_data_64 as u128, at),
-        index(Row::TransferUserData32, transfer.user_data_32 as u128, at),
-        index(Row::TransferLedger, transfer.ledger as u128, at),
-        index(Row::TransferCode, transfer.code as u128, at),
-        status,
-        expiry,
-        debit_history,
-        credit_history,
-    ]
+    make_two(rows, steps, &debit_history, &credit_history)
+}
+
+/// Adds a transfer to rows, by what was looked up for it, and puts the steps that take it back behind others.
+///
+/// The only refusal is `NoMemory`, and each row is then as it was.
+pub(crate) fn add_transfer<S: RowSet, A: Allocator>(
+    rows: &mut S,
+    steps: &mut Steps<A>,
+    found: &Found,
+    transfer: &Transfer,
+) -> Result<(), Refusal>
+    requires range { MovesInRange found.now transfer.now }
+    requires can { CanChangeAll S.has_row S.fits S.takes_any (changes_by found.now (Entry.Transfer transfer.now)) (S.parts rows.old) }
+    ensures rows { OnOk result (S.parts rows.new ≡ all_changed (changes_by found.now (Entry.Transfer transfer.now)) (S.parts rows.old)) }
+    ensures steps { OnOk result (AreAdded S.has_row S.fits S.takes_any steps.old steps.new (S.parts rows.old) (S.parts rows.new)) }
+    ensures sealed { S.sealed rows.new ≡ S.sealed rows.old }
+    ensures err { OnErr result ((S.parts rows.new ≡ S.parts rows.old) × (steps.new ≡ steps.old)) }
+    ensures refusal { IfErr result (λ refusal. refusal ≡ Refusal.NoMemory) }
+{
+    let from = steps.len();
+    match make_transfer(rows, steps, found, transfer) {
+        Ok(()) => Ok(()),
+        Err(refusal) => {
+            take_steps(rows, steps, from);
+            Err(refusal)
+        }
+    }
 }

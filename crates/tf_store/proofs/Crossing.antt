@@ -2,6 +2,7 @@
 -- part, as of a whole store no one search ends within its bounds.
 use Rattle.std.proofs.Crossing.{crosses}
 use Rattle.std.proofs.CrossingOver as over
+use Rattle.std.proofs.MapsCrossingOver as maps
 use Rattle.std.specs.declared.alloc.Allocator as Allocator
 use Rattle.std.specs.declared.sync.ledger.Ledger as Ledger
 use Rattle.tf_btree.proofs.node.Node.TheLaws.TheKnot as knot
@@ -42,7 +43,7 @@ module _ (A : RattleType) (a : Allocator.Ghosts A.Denot) (A-send : IsSend A) (A-
   due-send = search (crosses, over.crosses, knot.crosses, sendable) depth 60 fits 20000
 
   resident-send : IsSend (Resident.the_row A a)
-  resident-send = search (crosses, over.crosses, knot.crosses, sendable) depth 60 fits 20000
+  resident-send = search (crosses, over.crosses, maps.crosses, sendable) depth 60 fits 20000
 
   module _ (N : RattleType) (n : Naming.Ghosts N.Denot) (N-send : IsSend N) (N-sync : IsSync N) where
     tables-send : IsSend (Manifest.the_row A N a n)

@@ -1,8 +1,10 @@
-use Rattle.std.proofs.Common.{List, sym, subst}
+use Rattle.std.proofs.Common.{List, refl, sym, subst}
 use Rattle.tf_manifest.proofs.Maps.{on_ok}
+use Rattle.tf_journal.specs.declared.entry.Entry.{Entry}
 use Rattle.tf_journal.specs.declared.entry.Entry.TheVariants as entry
 use Rattle.tf_rows.specs.declared.change.Change.{Change}
 use Rattle.tf_rows.specs.Changes.{CanChangeAll, present}
+use Rattle.tf_rows.specs.Next.{changes_by}
 use Rattle.tf_rows.proofs.Added.{changed_by, made_by, shown_by}
 use Rattle.tf_rows.proofs.add.add_entry.Goals as goal
 
@@ -24,23 +26,22 @@ returns-in-Account-clause-rows g c =
     (changed_by (g.S.RowSet.parts c.args.rows.now) c.args.found.now (present c.account_changes.result) (entry.Account c.in-Account.account) c.args.entry.now c.in-Account.is c.account_changes.ensures (g.S.RowSet.parts c.make_changes.new.set))
     c.make_changes.ensures.rows
 
-pub make_changes-requires-in-Transfer : goal.make_changes-requires-in-Transfer
-make_changes-requires-in-Transfer g c =
-    subst (λ (cs : List Change). CanChangeAll g.S.RowSet.has_row g.S.RowSet.fits g.S.RowSet.takes_any cs (g.S.RowSet.parts c.args.rows.now))
-    (sym (made_by (g.S.RowSet.parts c.args.rows.now) c.args.found.now (present c.transfer_changes.result) (entry.Transfer c.in-Transfer.transfer) c.args.entry.now c.in-Transfer.is c.transfer_changes.ensures)) c.requires.can
+pub add_transfer-requires-clause-can : goal.add_transfer-requires-clause-can
+add_transfer-requires-clause-can g c =
+    subst (λ (e : Entry). CanChangeAll g.S.RowSet.has_row g.S.RowSet.fits g.S.RowSet.takes_any (changes_by c.args.found.now e) (g.S.RowSet.parts c.args.rows.now)) c.in-Transfer.is c.requires.can
 
 pub returns-in-Transfer-clause-shows : goal.returns-in-Transfer-clause-shows
 returns-in-Transfer-clause-shows g c = λ journal sound grows found shows.
-    on_ok c.make_changes-in-Transfer.result _ _
-    (λ made. shown_by (g.S.RowSet.parts c.args.rows.now) c.args.found.now (present c.transfer_changes.result) (entry.Transfer c.in-Transfer.transfer) c.args.entry.now c.in-Transfer.is c.transfer_changes.ensures
-    c.rows_show_the_next_entry.ensures (g.S.RowSet.parts c.make_changes-in-Transfer.new.set) made journal sound grows found shows)
-    c.make_changes-in-Transfer.ensures.rows
+    on_ok c.add_transfer.result _ _
+    (λ made. shown_by (g.S.RowSet.parts c.args.rows.now) c.args.found.now (changes_by c.args.found.now (entry.Transfer c.in-Transfer.transfer)) (entry.Transfer c.in-Transfer.transfer) c.args.entry.now c.in-Transfer.is refl
+    c.rows_show_the_next_entry.ensures (g.S.RowSet.parts c.add_transfer.new.rows) made journal sound grows found shows)
+    c.add_transfer.ensures.rows
 
 pub returns-in-Transfer-clause-rows : goal.returns-in-Transfer-clause-rows
 returns-in-Transfer-clause-rows g c =
-    on_ok c.make_changes-in-Transfer.result _ _
-    (changed_by (g.S.RowSet.parts c.args.rows.now) c.args.found.now (present c.transfer_changes.result) (entry.Transfer c.in-Transfer.transfer) c.args.entry.now c.in-Transfer.is c.transfer_changes.ensures (g.S.RowSet.parts c.make_changes-in-Transfer.new.set))
-    c.make_changes-in-Transfer.ensures.rows
+    on_ok c.add_transfer.result _ _
+    (changed_by (g.S.RowSet.parts c.args.rows.now) c.args.found.now (changes_by c.args.found.now (entry.Transfer c.in-Transfer.transfer)) (entry.Transfer c.in-Transfer.transfer) c.args.entry.now c.in-Transfer.is refl (g.S.RowSet.parts c.add_transfer.new.rows))
+    c.add_transfer.ensures.rows
 
 pub make_changes-requires-in-Expiry : goal.make_changes-requires-in-Expiry
 make_changes-requires-in-Expiry g c =
