@@ -13,16 +13,15 @@ HEADING = "Where an ingest's instructions go"
 COUNT = 100_000
 
 # the callers and callees whose calls make up a part, by the beginnings of their names
-STORE, ADD, CHANGES = "tf_events::chain::store_events", "tf_forest::forest::Forest::add", "tf_rows::change::make_changes"
+STORE, ADD, CHANGE = "tf_events::chain::store_events", "tf_forest::forest::Forest::add", "tf_rows::change::make_change::"
 PARTS = [
     ("look-ups of both accounts, for the verdict", [(STORE, "tf_forest::forest::Forest::account")]),
     ("look-up of the id", [(STORE, "tf_pending::id::id_fault")]),
-    ("look-ups of both accounts, for the add", [(ADD, "tf_btree::search::"), (ADD, "tf_rows::resident::Resident::get")]),
-    ("the list of the changes, set to zero before it is filled", [(ADD, "__memset")]),
-    ("sums of both accounts and the id, in trees", [(CHANGES, "tf_btree::tree::Tree::insert")]),
-    ("accounts in use, after the entry", [(ADD, "tf_rows::resident::Resident::put_any")]),
+    ("look-ups of both accounts, for the add", [(ADD, "tf_rows::found::party_with"), (ADD, "tf_rows::resident::Resident::get")]),
+    ("sums of both accounts and the id, in trees", [(CHANGE, "tf_btree::tree::Tree::insert")]),
+    ("accounts in use, after the entry", [(ADD, "tf_rows::resident::Resident::put")]),
 ]
-WHOLE_CHANGES = [(ADD, CHANGES)]
+WHOLE_CHANGES = [(ADD, CHANGE)]
 WHOLE_ADD = [("", ADD)]
 WHOLE_EVENTS = [("", STORE)]
 WHOLE_PUBLISH = [("", "tf_forest::publishing::")]
@@ -76,19 +75,18 @@ def run(_words):
         sys.exit("bench/run profile: it counts by valgrind, which isn't installed here")
     calls = counted(build("tf_ledger_bench"), "ingest_rising", COUNT, SEED, "unmerged")
     parts = [(name, per_transfer(calls, pairs)) for name, pairs in PARTS]
-    look_ups, lists, trees, in_use = parts[:3], parts[3], parts[4], parts[5]
+    look_ups, trees, in_use = parts[:3], parts[3], parts[4]
     changes, add = per_transfer(calls, WHOLE_CHANGES), per_transfer(calls, WHOLE_ADD)
     events, publish = per_transfer(calls, WHOLE_EVENTS), per_transfer(calls, WHOLE_PUBLISH)
     sorting = per_transfer(calls, SORTING)
-    rest = add - changes - parts[2][1] - lists[1] - in_use[1]
+    rest = add - changes - parts[2][1] - in_use[1]
     rows = [
         *look_ups,
         ("the rest of the verdict", events - add - parts[0][1] - parts[1][1]),
-        lists,
         trees,
-        ("objects, indexes and history in logs, and the notes", changes - trees[1]),
+        ("objects and history in logs, and what hands sums, ids and those on", changes - trees[1]),
         in_use,
-        ("the rest of the add: states, changes, floors", rest),
+        ("the rest of the add: states, keys of indexes, notes, floors", rest),
         ("publish: sorting the logs", sorting),
         ("publish: the rest", publish - sorting),
         ("all", events + publish),

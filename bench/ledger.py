@@ -47,9 +47,9 @@ RATES |= {name: 0.8 for name, _ in QUERIES if name not in RATES}
 GROWTH = 1.3
 # what would help next where that is missed, by profiles
 CHANGES = (
-    "each of an entry's changes goes through values of 160 bytes, which are set to zero and handed on whatever the row stores: "
-    "a quarter of the time; the indexes, seven of eleven changes, could be written by their keys alone. Another seventh goes "
-    "into the accounts in use, which are searched six times a transfer."
+    "the rows, steps and notes of a transfer are some 1.5 KB in twenty places of memory, which a batch doesn't find in a near cache again: "
+    "a third of the time; what isn't published yet could be kept as entries alone, of which a publish makes the rows. The trees of sums and "
+    "ids take a seventh, sorting a tenth."
 )
 SETTLED = (
     "a post looks its pending transfer up by its id in all tables of a row, and the publish that finds a row with 64 tables "
