@@ -25,7 +25,7 @@ WHOLE_CHANGES = [(ADD, CHANGE)]
 WHOLE_ADD = [("", ADD)]
 WHOLE_EVENTS = [("", STORE)]
 WHOLE_PUBLISH = [("", "tf_forest::publishing::")]
-SORTING = [("tf_publish::pushing::push_row", "core::slice::sort::")]
+SORTING = [("tf_mutable_rows::mutable_tables::", "core::slice::sort::")]
 
 
 def counted(program, *words):
