@@ -16,7 +16,7 @@ QUERIES = {"shared_3": 30}
 # how much of its transfers a second a client beside one reader may lose beside more, where there are processors for all
 LOSS = 0.2
 HEAD = [
-    "| clients | readers | queries a second | plain Rust's | ratio | transfers a second | plain Rust's | ratio | longest in the lock, ms: a batch | an install | plain Rust's, a batch | peak MiB | plain Rust's, MiB |",
+    "| clients | readers | queries a second | plain Rust's | ratio | transfers a second | plain Rust's | ratio | longest in the lock, ms: a batch | its installs | plain Rust's, a batch | peak MiB | plain Rust's, MiB |",
     "|---|---|---|---|---|---|---|---|---|---|---|---|---|",
 ]
 
@@ -129,9 +129,9 @@ def text(rows, targets):
         f"{made_by(' shared')} {UNPROVED} A number is the median of {TIMES} runs, the sides taking turns; a peak is the greatest memory of a "
         f"process. Clients store {COUNT:,} transfers between 10,000 accounts together, each in a thread of its own, in batches of 8,190, and "
         "publish after each. Each reader, in a thread of its own, brings its version up to date and asks for the first ten transfers of "
-        "an account, over and over, until all is stored. Ours is a store in a `Mutex`, which a client holds for a batch, its publish and "
-        "the pick of runs to merge, one more thread for each install of what it merged outside the lock, and readers never. The plain "
-        "ledger lies in a `Mutex` too, which readers take for each query; it publishes nothing and merges nothing. Transfers a second "
-        "are by the time of batches and publishes of the client that took longest, with what they waited for the lock.\n\n"
+        "an account, over and over, until all is stored. Ours is a store in a `Mutex`, which a client holds for a batch, the installs of "
+        "what was merged, the publish of both and the pick of runs to merge. One more thread merges, and never takes the lock; nor do "
+        "readers. The plain ledger lies in a `Mutex` too, which readers take for each query; it publishes nothing and merges nothing. "
+        "Transfers a second are by the time of batches and publishes of the client that took longest, with what they waited for the lock.\n\n"
         + "\n".join(HEAD + rows) + "\n\nWhat is wanted:\n\n" + "\n".join(targets)
     )

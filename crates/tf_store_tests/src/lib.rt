@@ -14,6 +14,8 @@ mod receipts;
 #[cfg(test)]
 mod refusals;
 #[cfg(test)]
+mod sharing;
+#[cfg(test)]
 mod soak;
 #[cfg(test)]
 mod texts;

@@ -85,25 +85,6 @@ fn a_query_worker_alone_asks_twice(rt: HostRuntime) -> Result<(), Fail> {
     Ok(())
 }
 
-/// Whether a reader saw what was stored, and only once it was published.
-fn is_seen<R: Wait + Threads + AllocGlobal + Sync>(rt: &R, trial: Trial) -> Result<bool, Fail> {
-    let tasks = one_client(rt.alloc(), Vec::new(rt.alloc()))?;
-    let tried = try_out(rt, rt.alloc(), &tasks, trial, &Meetings::new(true));
-    Ok(matches!(tried, Tried::Seen(true)))
-}
-
-#[test]
-fn a_receipt_that_a_reader_learned_is_read_back(rt: HostRuntime) -> Result<(), Fail> {
-    assert!(rt; is_seen(&rt, Trial::Receipt)?);
-    Ok(())
-}
-
-#[test]
-fn a_thread_locks_a_store_and_publishes(rt: HostRuntime) -> Result<(), Fail> {
-    assert!(rt; is_seen(&rt, Trial::Lock)?);
-    Ok(())
-}
-
 #[test]
 fn workers_go_at_the_same_time(rt: HostRuntime) -> Result<(), Fail> {
     let tasks = storm_of(rt.alloc(), that_meet(rt.alloc())?, 1, 1)?;
