@@ -10,9 +10,11 @@ HEADING = "A ledger with readers"
 TIMES = 3
 COUNT = 1_000_000
 # the workloads, with how many clients and how many readers they have
-SHARED = {"shared_1": (1, 1), "shared_3": (1, 3), "shared_16": (1, 16), "clients_4": (4, 3)}
+SHARED = {"shared_0": (1, 0), "shared_1": (1, 1), "shared_3": (1, 3), "shared_16": (1, 16), "clients_4": (4, 3)}
 # how many times the queries a second of the plain ledger, which readers lock too, are wanted
 QUERIES = {"shared_3": 30}
+# beside which a client's transfers a second are compared with those beside more readers
+ALONE = "shared_1"
 # how much of its transfers a second a client beside one reader may lose beside more, where there are processors for all
 LOSS = 0.2
 HEAD = [
@@ -78,8 +80,9 @@ def row(name, ours, plain):
     clients, readers = SHARED[name]
     batch, install = ours.held()
     (plain_batch,) = plain.held()
+    asked = f"{ours.queries():,.0f} | {plain.queries():,.0f} | {ours.queries() / plain.queries():.2f}" if readers else "| |"
     return (
-        f"| {clients} | {readers} | {ours.queries():,.0f} | {plain.queries():,.0f} | {ours.queries() / plain.queries():.2f} "
+        f"| {clients} | {readers} | {asked} "
         f"| {ours.transfers():,.0f} | {plain.transfers():,.0f} | {ours.transfers() / plain.transfers():.2f} "
         f"| {batch:.1f} | {install:.1f} | {plain_batch:.1f} | {ours.peak / 2**20:.0f} | {plain.peak / 2**20:.0f} |"
     )
@@ -93,17 +96,23 @@ def wanted(sides):
         ratio = ours.queries() / plain.queries()
         met = "met" if ratio >= times else "missed"
         lines.append(f"- with {SHARED[name][1]} readers {ratio:.2f} times the queries a second of the plain ledger, of at least {times} that are wanted: {met}")
-    alone = next(iter(SHARED))
     for name, (clients, readers) in SHARED.items():
-        if name == alone or clients > 1:
+        if readers <= SHARED[ALONE][1] or clients > 1:
             continue
-        loss = 1 - sides[name][0].transfers() / sides[alone][0].transfers()
+        loss = 1 - sides[name][0].transfers() / sides[ALONE][0].transfers()
         # the readers, who stores and who merges
         threads, processors = readers + 2, os.cpu_count()
         met = "met" if loss <= LOSS else "missed"
         if threads > processors:
             met += f", though here {threads} threads share {processors}"
-        lines.append(f"- {readers} readers take {max(loss, 0):.0%} of the transfers a second that there are beside {SHARED[alone][1]}, of at most {LOSS:.0%} that are wanted where each thread has a processor: {met}")
+        lines.append(f"- {readers} readers take {max(loss, 0):.0%} of the transfers a second that there are beside {SHARED[ALONE][1]}, of at most {LOSS:.0%} that are wanted where each thread has a processor: {met}")
+    for name, (clients, readers) in SHARED.items():
+        if clients == 1:
+            continue
+        (beside,) = (one for one, shape in SHARED.items() if shape == (1, readers))
+        gain = sides[name][0].transfers() / sides[beside][0].transfers()
+        met = "met" if gain >= 1 else "missed"
+        lines.append(f"- {clients} clients store {gain:.2f} of what one does beside {readers} readers, of at least 1 that is wanted: {met}")
     return lines
 
 

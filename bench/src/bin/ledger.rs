@@ -49,6 +49,7 @@ const WORKLOADS: [(&str, Workload); 22] = [
     ("look_up_strewn", |run| {
         queries::look_up(run, Ids::Random, Order::AsStored)
     }),
+    ("shared_0", |run| sharing::share(run, 1, 0)),
     ("shared_1", |run| sharing::share(run, 1, 1)),
     ("shared_3", |run| sharing::share(run, 1, 3)),
     ("shared_16", |run| sharing::share(run, 1, 16)),
