@@ -15,7 +15,7 @@ use std::process::ExitCode;
 
 type Workload = fn(Run) -> Measured;
 
-const WORKLOADS: [(&str, Workload); 22] = [
+const WORKLOADS: [(&str, Workload); 23] = [
     ("ingest_rising", |run| ingest::ingest(run, Ids::Rising)),
     ("ingest_random", |run| ingest::ingest(run, Ids::Random)),
     ("ingest_small", ingest::ingest_small),
