@@ -4,8 +4,8 @@ use Rattle.std.specs.List.{flat_map}
 use Rattle.tf_script.specs.Command.{Command, accounts, transfers, pulse, publish, query, lookup_accounts, lookup_transfers}
 use Rattle.tf_script.specs.Script.{Place, script_of}
 use Rattle.tf_script.specs.declared.command.Query.TheVariants as asks
-use Rattle.tf_workers.specs.declared.work.Ask.{Ask}
-use Rattle.tf_workers.specs.declared.work.Ask.TheVariants as ask
+use Rattle.tf_asking.specs.declared.ask.Ask.{Ask}
+use Rattle.tf_asking.specs.declared.ask.Ask.TheVariants as ask
 use Rattle.tf_workers.specs.declared.work.Work.{Work}
 use Rattle.tf_workers.specs.declared.work.Work.TheVariants.{Accounts, Transfers, Pulse, Publish}
 

@@ -9,7 +9,6 @@
 mod clients;
 mod compactors;
 mod desk;
-mod query_workers;
 mod sections;
 mod shared;
 mod storms;
@@ -17,9 +16,9 @@ mod work;
 
 pub use clients::client;
 pub use compactors::compactor;
-pub use query_workers::{VersionReader, query_worker};
 pub use shared::SharedStore;
 pub use storms::{Totals, storm};
+pub use tf_asking::{Ask, VersionReader, query_worker};
 pub use tf_crew::{Asked, Compacted, Done, Ended, Gate, OpenGate, StormFault};
 pub use tf_jobs::{JobQueue, JobSeat, Reckoning, reckon};
-pub use work::{Ask, Work};
+pub use work::Work;

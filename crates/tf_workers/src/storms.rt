@@ -2,14 +2,14 @@
 ghost use Rattle.std.specs.Prelude.{◌≡◌, ◌<◌, ◌≤◌, length, vec_len, IfOk};
 ghost use Rattle.tf_store.specs.Book.{book_of};
 
+use crate::Work;
 use crate::desk::{Critical, Desk};
-use crate::query_workers::answer_of_list;
 use crate::shared::SharedStore;
-use crate::{Ask, VersionReader, Work};
 use std::alloc::{Allocator, Global};
 use std::marker::{Send, Sync};
 use std::sync::{Mutex, Wait};
 use std::thread::Threads;
+use tf_asking::{Ask, VersionReader, answer_of_list};
 use tf_crew::{Done, Gate, Joined, StormFault, run_crew};
 use tf_forest::Forest;
 use tf_query::Version;

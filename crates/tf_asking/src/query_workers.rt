@@ -1,13 +1,13 @@
 //! Query workers.
 ghost use Rattle.std.specs.Prelude.{◌≡◌, IfErr, IfOk, IfSome, Ok};
-ghost use Rattle.tf_workers.specs.Asks.{row_count_of};
+ghost use Rattle.tf_asking.specs.Asks.{row_count_of};
 
 use crate::Ask;
 use std::alloc::{Allocator, Global};
 use tf_crew::{Answered, Asked as Counted, Gate, WantOfMemory, query_worker_by};
+use tf_history::HistoryName;
 use tf_readers::{Asked, Found, Publishable, Reader};
 use tf_records::{BATCH_MAX, Refusal};
-use tf_store::StoreName;
 
 /// A reader, as query workers see it. It takes no lock.
 pub trait VersionReader {
@@ -19,7 +19,7 @@ pub trait VersionReader {
         ensures { IfErr result (λ refusal. refusal ≡ Refusal.NoMemory) };
 }
 
-impl<V: Publishable + Drop, A: Allocator, S: StoreName> VersionReader for Reader<V, A, S> {
+impl<V: Publishable + Drop, A: Allocator, S: HistoryName> VersionReader for Reader<V, A, S> {
     fn count_rows(&mut self, alloc: Global, ask: &Ask) -> Result<u64, Refusal> {
         match self.latest() {
             Some(version) => rows_of(alloc, &version, ask),
@@ -110,14 +110,15 @@ fn told(found: Result<u64, Refusal>) -> Result<u64, WantOfMemory>
     }
 }
 
-/// The question of this number to the query worker with this one, of which the first has number `first`.
+/// The question of a number in the list of a query worker.
 fn question(asks: &[Vec<Ask>], first: usize, worker: u32, number: usize) -> Option<&Ask> {
     let place = (worker as usize).saturating_sub(first);
     asks.get(place)?.as_slice().get(number)
 }
 
-/// Asks a reader a question of a list.
-pub(crate) fn answer_of_list<Q: VersionReader + Drop>(
+/// Asks a reader the question of this number in the list of the query worker with this one, of which the first has number `first`, if
+/// there is such a question: what a crew has query workers do.
+pub fn answer_of_list<Q: VersionReader + Drop>(
     alloc: Global,
     asks: &[Vec<Ask>],
     first: usize,
