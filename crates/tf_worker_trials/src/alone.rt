@@ -1,12 +1,9 @@
 //! Trials on a new store, which is ended. They are generic in all that a store is made of.
 ghost use Rattle.std.specs.Prelude.{◌≡◌, ◌<◌, ◌≤◌, vec_len};
 
-use crate::gates::Meetings;
 use crate::lock::publish_beside;
-use crate::readers::{WatchedReader, watched};
 use crate::receipts::learn;
 use crate::shared::end;
-use crate::tasks::Tasks;
 use crate::trials::{Trial, Tried};
 use crate::turns::take_turns;
 use std::alloc::Global;
@@ -17,6 +14,7 @@ use tf_query::Version;
 use tf_readers::{Publishable, Reader};
 use tf_rows::SealRows;
 use tf_store::{Share, StoreName, StoreOf, VersionCopies};
+use tf_task_trials::{Meetings, Tasks, WatchedReader, watched};
 use tf_workers::{Done, SharedStore, Totals, storm};
 
 /// Runs a trial on a new store with a share for each client and two readers.

@@ -1,10 +1,7 @@
 //! Workers one after another, in one thread.
 ghost use Rattle.std.specs.Prelude.{◌≡◌, IfOk};
 
-use crate::gates::CountingGate;
-use crate::readers::{WatchedReader, transfer_bytes};
 use crate::shared::{end, expiry_tables};
-use crate::tasks::transfers_of_first;
 use std::alloc::{AllocError, Global};
 use std::sync::{Mutex, Wait};
 use tf_manifest::Job;
@@ -13,6 +10,7 @@ use tf_readers::{Asked, Publishable};
 use tf_records::Refusal;
 use tf_rows::SealRows;
 use tf_store::{Share, StoreName, VersionCopies};
+use tf_task_trials::{CountingGate, WatchedReader, transfer_bytes, transfers_of_first};
 use tf_workers::{
     Ask, Compacted, Ended, JobQueue, JobSeat, OpenGate, Reckoning, SharedStore, Work, client,
     compactor, query_worker, reckon,
