@@ -130,6 +130,9 @@ def readers_panel():
     groups = []
     for what, ratio in (("queries a second", "ratio"), ("transfers a second", "ratio 2")):
         for row in section.rows:
+            if not row[ratio]:
+                # without readers nobody asks
+                continue
             of = int(row["clients"]), int(row["readers"])
             wanted = {sharing.SHARED[name]: times for name, times in sharing.QUERIES.items()}.get(of) if ratio == "ratio" else None
             groups.append(Group(what, f"{of[0]} + {of[1]}", [number(row[ratio])], wanted))
