@@ -23,7 +23,7 @@ use Rattle.tf_query.specs.declared.condition.Condition.{Condition}
 use Rattle.tf_query.specs.declared.window.Window.{Window}
 use Rattle.tf_query.specs.Asked.{account_fields_at, account_filter_at, asks_no_field, meets_at, side_at, transfer_fields_at}
 use Rattle.tf_query.specs.Conditions.{account_conditions, asks_nothing, field_conditions, fields_at, meets_all, transfer_conditions}
-use Rattle.tf_query.specs.Reads.{account_in, transfer_in}
+use Rattle.tf_look_ups.specs.Reads.{account_in, transfer_in}
 use Rattle.tf_query.specs.declared.residual.Residual.{Residual}
 use Rattle.tf_query.specs.Residual.{AreFirstPassing, first_passing}
 use Rattle.tf_query.specs.Windows.{AreFirst, AreOfFirst, first_within}

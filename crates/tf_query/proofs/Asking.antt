@@ -13,7 +13,7 @@ use Rattle.tf_manifest.specs.View.{View}
 use Rattle.tf_query.specs.Asked.{account_fields_at, account_filter_at, asks_no_field, transfer_fields_at}
 use Rattle.tf_query.specs.Fields.{account_field, has_value, transfer_field}
 use Rattle.tf_query.specs.Matches.{account_timestamp, holds_at, record_at, transfer_timestamp}
-use Rattle.tf_query.specs.Reads.{account_in, has_entry, transfer_in}
+use Rattle.tf_look_ups.specs.Reads.{account_in, has_entry, transfer_in}
 
 -- what a filter asks of a transfer apart from its timestamp
 abbrev pub has_asked : AccountFilter → Transfer → Bool

@@ -24,7 +24,7 @@ use Rattle.tf_registry.specs.Row.{content_at}
 use Rattle.tf_manifest.specs.Rows.{Pair, failed_pair, key_of}
 use Rattle.tf_manifest.specs.View.{ShowsJournal, View, tables_by}
 use Rattle.tf_query.specs.Matches.{AreDated, account_timestamp, record_at, transfer_timestamp}
-use Rattle.tf_query.specs.Reads.{account_in, account_stamp_in, shown_in, stored_stamp, transfer_in, transfer_stamp_in}
+use Rattle.tf_look_ups.specs.Reads.{account_in, account_stamp_in, shown_in, stored_stamp, transfer_in, transfer_stamp_in}
 use Rattle.tf_query.proofs.Answered.{record_found}
 use Rattle.tf_query.proofs.Given.{found_has}
 use Rattle.tf_query.proofs.Keyed.{same_key}

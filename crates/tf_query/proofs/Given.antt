@@ -28,8 +28,9 @@ use Rattle.tf_manifest.specs.Shows.{value_of}
 use Rattle.tf_manifest.specs.View.{ShowsJournal, View, tables_by}
 use Rattle.tf_manifest.proofs.Members.{Has, has_left, has_right}
 use Rattle.tf_manifest.proofs.OneValue.{contained}
+use Rattle.tf_query.specs.History.{is_on_side}
 use Rattle.tf_query.specs.Matches.{account_timestamp, holds_at, record_at, transfer_timestamp}
-use Rattle.tf_query.specs.Reads.{account_in, balance_by, balance_in, is_on_side, shown_by, shown_in, state_in, sums_in, transfer_in}
+use Rattle.tf_look_ups.specs.Reads.{account_in, balance_by, balance_in, shown_by, shown_in, state_in, sums_in, transfer_in}
 use Rattle.tf_query.proofs.Keyed.{record_unmade, unmade, value_keyed}
 
 -- what a value is, if it is of a kind

@@ -19,7 +19,7 @@ use Rattle.tf_manifest.specs.Rows.{account_index, key_of, transfer_index}
 use Rattle.tf_manifest.specs.View.{ShowsJournal, View, tables_by, value_by}
 use Rattle.tf_query.specs.Fields.{account_field, has_value, transfer_field}
 use Rattle.tf_query.specs.Matches.{AreDated, account_timestamp, holds_at, transfer_timestamp}
-use Rattle.tf_query.specs.Reads.{has_entry}
+use Rattle.tf_look_ups.specs.Reads.{has_entry}
 use Rattle.tf_query.proofs.Dated.{any_held}
 use Rattle.tf_query.proofs.Keyed.{has_keyed, some_mapped}
 

@@ -13,7 +13,7 @@ use Rattle.tf_manifest.specs.declared.kinds.Stored.{Stored}
 use Rattle.tf_manifest.specs.declared.value.Value.{Value}
 use Rattle.tf_manifest.specs.Rows.{Pair, key_of}
 use Rattle.tf_query.specs.Matches.{record_at}
-use Rattle.tf_query.specs.Reads.{stored_record}
+use Rattle.tf_look_ups.specs.Reads.{stored_record}
 use Rattle.tf_query.proofs.Dated.{any_at}
 
 -- two numbers are the same exactly where they are equal in order

@@ -3,7 +3,6 @@ pub mod Directed
 pub mod Keyed
 pub mod Indexed
 pub mod Given
-pub mod Gaps
 pub mod Asking
 pub mod Answered
 pub mod InParts
@@ -13,10 +12,7 @@ pub mod Spelling
 pub mod Reading
 pub mod Asked
 pub mod Narrowing
-pub mod Found
 pub mod Testing
-pub mod Finding
-pub mod Ahead
 pub mod Summed
 pub mod Walking
 pub mod Versions

@@ -22,8 +22,9 @@ use Rattle.tf_scan.specs.Order.{IsInOrder}
 use Rattle.tf_scan.specs.Sets.{is_among}
 use Rattle.tf_query.specs.Asked.{account_fields_at, account_filter_at, transfer_fields_at}
 use Rattle.tf_query.specs.Fields.{account_field, has_value, transfer_field}
+use Rattle.tf_query.specs.History.{is_on_side}
 use Rattle.tf_query.specs.Matches.{AreDated, account_timestamp, accepted_in, direction_of, holds_at, record_at, transfer_timestamp}
-use Rattle.tf_query.specs.Reads.{account_in, balance_in, has_entry, is_on_side, shown_in, transfer_in}
+use Rattle.tf_look_ups.specs.Reads.{account_in, balance_in, has_entry, shown_in, transfer_in}
 use Rattle.tf_query.specs.declared.residual.Residual.{Residual}
 use Rattle.tf_query.specs.declared.residual.Tested.{Tested}
 use Rattle.tf_query.specs.Residual.{account_lead, account_residual, first_passing, passed, passes, passing_in, query_lead, query_residual}

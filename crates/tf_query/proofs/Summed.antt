@@ -30,9 +30,9 @@ use Rattle.tf_manifest.specs.View.{ShowsJournal, View, tables_by, value_by}
 use Rattle.tf_scan.specs.Sets.{is_among}
 use Rattle.tf_query.specs.Asked.{account_filter_at}
 use Rattle.tf_query.specs.Fields.{has_value, transfer_field}
-use Rattle.tf_query.specs.History.{asks_whole_account, has_sums, history_at}
+use Rattle.tf_query.specs.History.{asks_whole_account, has_sums, history_at, is_on_side}
 use Rattle.tf_query.specs.Matches.{AreDated, holds_at, record_at, transfer_timestamp}
-use Rattle.tf_query.specs.Reads.{has_entry, is_on_side}
+use Rattle.tf_look_ups.specs.Reads.{has_entry}
 use Rattle.tf_query.proofs.Asking.{account_filter_held, has_asked}
 use Rattle.tf_query.proofs.Dated.{any_at, any_held}
 use Rattle.tf_query.proofs.Keyed.{same_key, some_mapped}

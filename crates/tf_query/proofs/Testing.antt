@@ -1,7 +1,6 @@
 -- Transfers that are read part by part and tested.
 use Rattle.std.proofs.Common.{◌≡◌, ◌⊎◌, inl, inr, ◌∙◌, sym, refl, ap, ℕ, zero, suc, ◌+◌, ◌-◌, ◌<◌, ◌≤◌, arith, List, [], ◌∷◌, ◌++◌, append_assoc, get_or, length, take, drop, Option}
 use Rattle.std.specs.List.{filter_map}
-use Rattle.std.specs.Option.{option_to_list}
 use Rattle.std.proofs.lemmas.List.{append-nil, length-append, length-take, length-take-le, take-append-drop, take_all, take_at}
 use Rattle.std.proofs.lemmas.List.Elements.{filter_map-append}
 use Rattle.tf_manifest.specs.View.{View}
@@ -11,7 +10,6 @@ use Rattle.tf_query.specs.declared.residual.Residual.{Residual}
 use Rattle.tf_query.specs.declared.window.Window.{Window}
 use Rattle.tf_query.specs.Reading.{IsPart, all_within}
 use Rattle.tf_query.specs.Residual.{AreTested, first_passing, passing_in}
-use Rattle.tf_query.proofs.Found.{more-found}
 
 -- ---- lists
 
@@ -30,14 +28,6 @@ module _ {X : Type 0} where
 -- ---- rows that are put behind others
 
 module _ {X Y : Type 0} (f : X → Option Y) where
-  -- one more
-  pub more-behind : (xs : List X) (i : ℕ) (d : X) (new old first : List Y) (found : Option Y) → i < length xs → found ≡ f (get_or xs i d) → new ≡ old ++ option_to_list found → old ≡ first ++ filter_map f (take i xs) → new ≡ first ++ filter_map f (take (i + 1) xs)
-  more-behind xs i d new old first found h e n o =
-      n
-      ∙ ap (λ ys. ys ++ option_to_list found) o
-      ∙ append_assoc first (filter_map f (take i xs)) (option_to_list found)
-      ∙ ap (λ ys. first ++ ys) (more-found f xs i d (filter_map f (take i xs) ++ option_to_list found) (filter_map f (take i xs)) found h e refl refl)
-
   -- as many as are asked for
   pub enough : (most : ℕ) (xs : List X) (i : ℕ) (rows first : List Y) → length rows ≡ most → rows ≡ first ++ filter_map f (take i xs) → rows ≡ take most (first ++ filter_map f xs)
   enough most xs i rows first full o =

@@ -12,10 +12,10 @@ use Rattle.tf_scan.specs.declared.direction.Direction.TheVariants.{Rising, Falli
 use Rattle.tf_scan.specs.Place.{IsTaken, rows_behind}
 use Rattle.tf_scan.proofs.Keys.{taken-long}
 use Rattle.tf_scan.proofs.Paired.{taken-paired}
-use Rattle.tf_query.specs.declared.finder.Part.{Part}
-use Rattle.tf_query.specs.Finder.{AreSilent, IsInPart}
+use Rattle.tf_look_ups.specs.declared.finder.Part.{Part}
+use Rattle.tf_look_ups.specs.Finder.{AreSilent, IsInPart}
 use Rattle.tf_query.specs.Walk.{AreComing, AreEntries, AreKnown, AreTableRows}
-use Rattle.tf_query.proofs.Finding.{entry_there}
+use Rattle.tf_look_ups.proofs.Finding.{entry_there}
 
 module _ {X : Type 0} (P : X → Type 0) where
   all_kept : (f : X → Bool) (xs : List X) → AllByRecursion P xs → AllByRecursion P (filter f xs)

@@ -6,7 +6,7 @@ use Rattle.tf_journal.specs.Filter.{asks_credits, asks_debits}
 use Rattle.tf_manifest.specs.declared.kind.UnitRow.{UnitRow}
 use Rattle.tf_manifest.specs.declared.kind.UnitRow.TheVariants as unit
 use Rattle.tf_manifest.specs.View.{View}
-use Rattle.tf_query.specs.Reads.{account_in, has_entry, transfer_in}
+use Rattle.tf_look_ups.specs.Reads.{account_in, has_entry, transfer_in}
 
 -- whether an index has what is asked for at a timestamp: 0 asks nothing
 abbrev pub meets_at : View → UnitRow → ℕ → ℕ → Bool

@@ -1,6 +1,7 @@
 -- Where balances of an account in the past are asked for, and where the row of sums has them.
-use Rattle.std.specs.Prelude.{ℕ, ◌==◌, ◌&&◌, Bool, is_some, if◌then◌else◌}
+use Rattle.std.specs.Prelude.{ℕ, ◌==◌, ◌&&◌, ◌||◌, Bool, is_some, if◌then◌else◌}
 use Rattle.tf_records.specs.declared.account_filter.AccountFilter.{AccountFilter}
+use Rattle.tf_records.specs.declared.transfer.Transfer.{Transfer}
 use Rattle.tf_journal.specs.Filter.{asks_credits, asks_debits}
 use Rattle.tf_manifest.specs.declared.kind.Kind.TheVariants as kind
 use Rattle.tf_registry.specs.Row.{content_at}
@@ -17,6 +18,10 @@ asks_whole_account filter =
     && filter.user_data_64 == 0
     && filter.user_data_32 == 0
     && filter.code == 0
+
+-- whether an account is on a side of a transfer
+abbrev pub is_on_side : ℕ → Transfer → Bool
+is_on_side id transfer = transfer.debit_account_id == id || transfer.credit_account_id == id
 
 -- whether the row of sums has something of an account at a timestamp
 abbrev pub has_sums : View → ℕ → ℕ → Bool

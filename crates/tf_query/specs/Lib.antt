@@ -1,13 +1,10 @@
 pub mod Matches
 pub mod Fields
-pub mod Reads
 pub mod Asked
 pub mod Conditions
 pub mod Windows
 pub mod Reading
 pub mod Residual
 pub mod Version
-pub mod Finder
-pub mod Gapped
 pub mod History
 pub mod Walk

@@ -11,7 +11,7 @@ use Rattle.tf_query.specs.declared.residual.Residual.{Residual}
 use Rattle.tf_query.specs.declared.residual.Tested.{Tested}
 use Rattle.tf_query.specs.declared.window.Window.{Window}
 use Rattle.tf_query.specs.Reading.{AreFrom, all_within}
-use Rattle.tf_query.specs.Reads.{transfer_in}
+use Rattle.tf_look_ups.specs.Reads.{transfer_in}
 use Rattle.tf_scan.specs.declared.direction.Direction.{Direction}
 use Rattle.tf_scan.specs.Order.{IsInOrder}
 use Rattle.tf_scan.specs.Sets.{is_among}

@@ -3,8 +3,8 @@ use Rattle.std.specs.Prelude.{◌≡◌, List, Option, Some, length}
 use Rattle.std.specs.List.{AllByRecursion, zip}
 use Rattle.tf_table.specs.declared.key.Key.{Key}
 use Rattle.tf_table.specs.Content.{entry_at, entry_of}
-use Rattle.tf_query.specs.declared.finder.Part.{Part}
-use Rattle.tf_query.specs.Finder.{IsInPart}
+use Rattle.tf_look_ups.specs.declared.finder.Part.{Part}
+use Rattle.tf_look_ups.specs.Finder.{IsInPart}
 
 -- each row has the entry of its key in a table
 abbrev pub AreEntries : {V : Type 0} → List (Key × Option V) → List (Key × Option V) → Type 0

@@ -3,11 +3,11 @@ ghost use Rattle.std.specs.Prelude.{◌≡◌, ◌+◌, ◌<◌, ◌≤◌, ◌+
 ghost use Rattle.std.specs.Option.{option_copied, option_map, option_to_list};
 ghost use Rattle.tf_registry.specs.Row.{content_at};
 ghost use Rattle.tf_manifest.specs.Rows.{key_of};
-ghost use Rattle.tf_query.specs.Reads.{balance_by, balance_in, stored_record};
+ghost use Rattle.tf_look_ups.specs.Reads.{balance_by, balance_in, stored_record};
 
-use crate::reads::{key_of, record_of};
 use crate::walk::Walk;
 use std::alloc::Allocator;
+use tf_look_ups::{key_of, record_of};
 use tf_manifest::{Manifest, Stored};
 use tf_records::{AccountBalance, Refusal, Sums};
 use tf_registry::Naming;

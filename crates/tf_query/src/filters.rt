@@ -9,7 +9,7 @@ ghost use Rattle.tf_manifest.specs.Rows.{key_of};
 ghost use Rattle.tf_manifest.specs.View.{ShowsJournal};
 ghost use Rattle.tf_query.specs.Asked.{account_fields_at, account_filter_at, transfer_fields_at};
 ghost use Rattle.tf_query.specs.Conditions.{fields_at};
-ghost use Rattle.tf_query.specs.Reads.{transfer_in};
+ghost use Rattle.tf_look_ups.specs.Reads.{transfer_in};
 ghost use Rattle.tf_query.specs.Residual.{AreFirstPassing, account_lead, account_residual, query_lead, query_residual};
 ghost use Rattle.tf_query.specs.Windows.{AreFirst, AreOfFirst, account_window, query_window};
 
@@ -17,7 +17,6 @@ use crate::condition::{Condition, account_conditions, transfer_conditions};
 use crate::laws::leads_answer_filters;
 use crate::leading::{tested_of_account_filter, tested_of_query_filter};
 use crate::passing::passing_within;
-use crate::reads::{accounts_at, transfers_at};
 use crate::residual::{Residual, Tested, account_lead, query_lead};
 use crate::scans::{account_scan, narrowed, object_scan};
 use crate::scans_answer_filters;
@@ -25,6 +24,7 @@ use crate::timestamps::{few_within, timestamps_unless_refused, timestamps_within
 use crate::window::{FEW, Window};
 use std::alloc::Allocator;
 use tf_journal::{is_valid_account_filter, is_valid_query_filter};
+use tf_look_ups::{accounts_at, transfers_at};
 use tf_manifest::{Manifest, RowValue};
 use tf_records::{Account, AccountFilter, QueryFilter, Refusal, Transfer};
 use tf_registry::{Naming, Tables};

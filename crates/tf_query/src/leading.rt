@@ -4,9 +4,9 @@
 //! a search for each of these; to fetch their records takes less, and those that match are wanted anyway. How many timestamps
 //! an index has under a value is told by its largest table alone, which may err: a choice costs time, and no answer.
 
-use crate::reads::key_of;
 use crate::residual::Tested;
 use std::alloc::Allocator;
+use tf_look_ups::key_of;
 use tf_manifest::{Manifest, UnitRow};
 use tf_records::{AccountFilter, QueryFilter};
 use tf_registry::{Naming, Tables};

@@ -6,20 +6,16 @@
 //! code that is asked for beside something that leads to fewer is left out there, and tested on the records.
 #![tactic(auto)]
 
-mod at_once;
 mod balances;
 mod condition;
 mod expected;
 mod filters;
-mod finder;
-mod gapped;
 mod history;
 mod laws;
 mod leading;
 mod look_ups;
 mod passing;
 mod published;
-mod reads;
 mod residual;
 mod scans;
 mod timestamps;

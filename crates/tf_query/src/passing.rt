@@ -5,12 +5,11 @@ ghost use Rattle.std.specs.Option.{option_and_then, option_copied};
 ghost use Rattle.tf_query.specs.Residual.{first_passing, passed, passing_in};
 ghost use Rattle.tf_scan.specs.Order.{IsInOrder};
 
-use crate::finder::Finder;
-use crate::reads::{found_transfer, push_record};
 use crate::residual::Residual;
 use crate::timestamps::{PART, read_part, room_for, seek_first};
 use crate::window::Window;
 use std::alloc::Allocator;
+use tf_look_ups::{Finder, found_transfer, push_record};
 use tf_manifest::Manifest;
 use tf_records::{Refusal, Transfer};
 use tf_registry::Naming;

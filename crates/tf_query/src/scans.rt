@@ -6,7 +6,7 @@ ghost use Rattle.tf_registry.specs.Row.{content_at};
 ghost use Rattle.tf_manifest.specs.Rows.{key_of};
 ghost use Rattle.tf_query.specs.Asked.{account_filter_at, meets_at, side_at};
 ghost use Rattle.tf_query.specs.Conditions.{asks_nothing, field_conditions, is_left, meets_all};
-ghost use Rattle.tf_query.specs.Reads.{has_entry};
+ghost use Rattle.tf_look_ups.specs.Reads.{has_entry};
 ghost use Rattle.tf_scan.specs.Sets.{is_among};
 
 use crate::condition::{Condition, field_conditions};

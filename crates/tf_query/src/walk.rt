@@ -7,9 +7,9 @@ ghost use Rattle.tf_registry.specs.Row.{content_at, lists_of};
 ghost use Rattle.tf_scan.specs.Place.{rows_behind};
 ghost use Rattle.tf_query.specs.Walk.{AreComing, AreTableRows};
 
-use crate::finder::{Part, newest, table_at};
 use std::alloc::Allocator;
 use std::marker::Model;
+use tf_look_ups::{Part, newest, table_at};
 use tf_manifest::RowValue;
 use tf_registry::{Naming, TableRef, Tables};
 use tf_scan::{ANYWHERE, Direction, expected_in};

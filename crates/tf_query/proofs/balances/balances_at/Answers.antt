@@ -6,8 +6,8 @@ use Rattle.tf_registry.specs.Row.{content_at}
 use Rattle.tf_manifest.specs.declared.kind.Kind.TheVariants as kind
 use Rattle.tf_manifest.specs.Rows.{key_of}
 use Rattle.tf_manifest.specs.View.{View, tables_by}
-use Rattle.tf_query.specs.Reads.{balance_by, balance_in, stored_record, sums_in}
-use Rattle.tf_query.proofs.Found.{more-found}
+use Rattle.tf_look_ups.specs.Reads.{balance_by, balance_in, stored_record, sums_in}
+use Rattle.tf_look_ups.proofs.Found.{more-found}
 use Rattle.tf_query.proofs.balances.balances_at.Goals as goal
 
 pub loop-timestamp-preserved : goal.loop-timestamp-preserved

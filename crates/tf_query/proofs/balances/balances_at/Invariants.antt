@@ -3,7 +3,7 @@ use Rattle.std.specs.List.{filter_map}
 use Rattle.std.specs.Prelude.{vec_capacity, vec_len}
 use Rattle.tf_manifest.specs.declared.kind.Kind.TheVariants as kind
 use Rattle.tf_manifest.specs.View.{tables_by}
-use Rattle.tf_query.specs.Reads.{balance_in}
+use Rattle.tf_look_ups.specs.Reads.{balance_in}
 use Rattle.tf_query.proofs.balances.balances_at.Given as goal
 
 abbrev pub invariant-loop-timestamp : goal.invariant-loop-timestamp

@@ -1,6 +1,6 @@
 use Rattle.std.proofs.Common.{◌∙◌, refl, sym}
 use Rattle.tf_query.specs.Asked.{account_filter_at}
-use Rattle.tf_query.specs.Reads.{transfer_in}
+use Rattle.tf_look_ups.specs.Reads.{transfer_in}
 use Rattle.tf_query.specs.Residual.{account_lead, account_residual}
 use Rattle.tf_query.specs.Windows.{account_window}
 use Rattle.tf_journal.specs.Filter.{account_search}

@@ -1,7 +1,7 @@
 use Rattle.std.proofs.Common.{◌∙◌, ℕ, Ok, ap, refl, take}
 use Rattle.std.specs.Prelude.{vec_capacity}
 use Rattle.tf_query.specs.Asked.{account_filter_at}
-use Rattle.tf_query.specs.Reads.{transfer_in}
+use Rattle.tf_look_ups.specs.Reads.{transfer_in}
 use Rattle.tf_query.specs.Windows.{AreFirst, account_window}
 use Rattle.tf_query.proofs.Asked.{few-rows, first-read, rows-of-first}
 use Rattle.tf_query.proofs.filters.few_account_transfers.Given.{Over}

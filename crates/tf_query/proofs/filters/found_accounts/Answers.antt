@@ -3,7 +3,7 @@ use Rattle.std.specs.List.{filter_map}
 use Rattle.std.specs.Prelude.{vec_capacity}
 use Rattle.tf_records.specs.declared.account.Account.{Account}
 use Rattle.tf_query.specs.Asked.{account_fields_at}
-use Rattle.tf_query.specs.Reads.{shown_in}
+use Rattle.tf_look_ups.specs.Reads.{shown_in}
 use Rattle.tf_query.specs.Windows.{query_window}
 use Rattle.tf_journal.specs.Filter.{query_search, searched_account}
 use Rattle.tf_journal.specs.Journal.{accounts_of}

@@ -3,7 +3,7 @@ use Rattle.std.specs.List.{filter_map}
 use Rattle.std.specs.Prelude.{vec_capacity}
 use Rattle.tf_records.specs.declared.transfer.Transfer.{Transfer}
 use Rattle.tf_query.specs.Asked.{transfer_fields_at}
-use Rattle.tf_query.specs.Reads.{transfer_in}
+use Rattle.tf_look_ups.specs.Reads.{transfer_in}
 use Rattle.tf_query.specs.Residual.{query_lead, query_residual}
 use Rattle.tf_query.specs.Windows.{query_window}
 use Rattle.tf_journal.specs.Filter.{query_search, searched_transfer}

@@ -1,6 +1,6 @@
 use Rattle.std.specs.Prelude.{vec_capacity}
 use Rattle.tf_query.specs.Asked.{account_filter_at}
-use Rattle.tf_query.specs.Reads.{transfer_in}
+use Rattle.tf_look_ups.specs.Reads.{transfer_in}
 use Rattle.tf_query.specs.Windows.{account_window}
 use Rattle.tf_query.proofs.Asked.{few-rows, rows-of-first}
 use Rattle.tf_query.proofs.filters.many_account_transfers.Goals as goal

@@ -2,7 +2,7 @@ use Rattle.std.proofs.Common.{◌∙◌, ℕ, ap, refl}
 use Rattle.std.specs.Prelude.{is_some}
 use Rattle.tf_manifest.specs.declared.kind.Kind.TheVariants as kind
 use Rattle.tf_manifest.specs.View.{View, tables_by}
-use Rattle.tf_query.specs.Reads.{transfer_in}
+use Rattle.tf_look_ups.specs.Reads.{transfer_in}
 use Rattle.tf_query.proofs.Asked.{first-tested, transfers-in}
 use Rattle.tf_query.proofs.filters.passing_objects.Goals as goal
 

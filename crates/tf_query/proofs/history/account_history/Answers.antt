@@ -3,7 +3,7 @@ use Rattle.std.specs.List.{filter_map}
 use Rattle.std.specs.Prelude.{vec_capacity}
 use Rattle.tf_records.specs.declared.account_balance.AccountBalance.{AccountBalance}
 use Rattle.tf_query.specs.History.{history_at}
-use Rattle.tf_query.specs.Reads.{balance_in}
+use Rattle.tf_look_ups.specs.Reads.{balance_in}
 use Rattle.tf_query.specs.Windows.{account_window}
 use Rattle.tf_journal.specs.Answer.{account_transfers_of, balance_after}
 use Rattle.tf_journal.specs.Filter.{account_search}

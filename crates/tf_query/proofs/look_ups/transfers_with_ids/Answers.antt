@@ -6,6 +6,6 @@ use Rattle.tf_query.proofs.look_ups.transfers_with_ids.Goals as goal
 
 pub returns-in-Ok-clause-ok : goal.returns-in-Ok-clause-ok
 returns-in-Ok-clause-ok g c journal sound shows =
-    subst (λ (rows : List Transfer). IfOk c.transfers.result (λ v. v.items ≡ rows))
+    subst (λ (rows : List Transfer). IfOk c.transfers_under_ids.result (λ v. v.items ≡ rows))
     (filter_map-alike _ (transfer_with_id journal) c.args.ids.now (λ id. c.rows_find_ids.ensures.transfers c.args.manifest.now journal sound shows id))
-    c.transfers.ensures.ok
+    c.transfers_under_ids.ensures.ok

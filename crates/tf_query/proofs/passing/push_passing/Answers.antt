@@ -6,9 +6,10 @@ use Rattle.tf_registry.specs.Row.{content_at}
 use Rattle.tf_manifest.specs.declared.kind.Kind.TheVariants as kind
 use Rattle.tf_manifest.specs.Rows.{key_of}
 use Rattle.tf_manifest.specs.View.{View, tables_by}
-use Rattle.tf_query.specs.Reads.{stored_record}
+use Rattle.tf_look_ups.specs.Reads.{stored_record}
 use Rattle.tf_query.specs.Residual.{passed, passing_in}
-use Rattle.tf_query.proofs.Testing.{enough, more-behind}
+use Rattle.tf_look_ups.proofs.Found.{more-behind}
+use Rattle.tf_query.proofs.Testing.{enough}
 use Rattle.tf_query.proofs.passing.push_passing.Goals as goal
 
 pub loop-timestamp-preserved : goal.loop-timestamp-preserved

@@ -1,9 +1,9 @@
 use Rattle.std.proofs.Common.{◌≡◌, ℕ, List, Option, IfSome, Some, None, slice_get, sym, subst, take}
 use Rattle.tf_table.specs.declared.key.Key.{Key}
 use Rattle.tf_registry.specs.Row.{lists_of}
-use Rattle.tf_query.specs.declared.finder.Part.{Part}
+use Rattle.tf_look_ups.specs.declared.finder.Part.{Part}
 use Rattle.tf_query.specs.declared.walk.Coming.{Coming}
-use Rattle.tf_query.specs.Finder.{AreSilent}
+use Rattle.tf_look_ups.specs.Finder.{AreSilent}
 use Rattle.tf_query.specs.Walk.{AreComing, AreTableRows}
 use Rattle.tf_query.proofs.Walking.{coming_of}
 use Rattle.tf_query.proofs.walk.Walk.search.Goals as goal

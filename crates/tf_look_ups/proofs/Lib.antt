@@ -1,0 +1,4 @@
+pub mod Gaps
+pub mod Found
+pub mod Finding
+pub mod Ahead

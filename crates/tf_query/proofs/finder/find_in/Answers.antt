@@ -1,5 +1,0 @@
-use Rattle.std.proofs.Common.{sym}
-use Rattle.tf_query.proofs.finder.find_in.Goals as goal
-
-pub returns-then-not-may_have : goal.returns-then-not-may_have
-returns-then-not-may_have g c = sym (c.may_have.ensures c.if-not-may_have.true)
