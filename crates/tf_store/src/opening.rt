@@ -166,6 +166,39 @@ where
     }
 }
 
+/// The same over rows that are made here. It names them where no version is.
+fn over_rows<T, C, H, A, S>(
+    alloc: A,
+    registries: &Registries<A>,
+    names: Names<S>,
+    shares: Vec<Share<S>, A>,
+    latest: Version<A, S>,
+    opened: Result<(C, H), Refusal>,
+) -> Result<Opening<Rows<T, A, S>, C, H, A, S>, Refusal>
+where
+    T: EmptyRows<A> + Drop,
+    C: StoredCopies + Drop,
+    H: Drop,
+    A: Allocator + Copy,
+    S: StoreName,
+    requires registries { AreShelves S.shelf registries.now }
+    requires names { (names.0.total ≡ 0) × (names.1 ≡ nothing_written) }
+    requires latest { latest ≡ [] }
+    requires shown { IfOk opened (λ o. C.shown o.0 ≡ []) }
+    requires none { IfErr opened (λ refusal. refusal ≡ Refusal.NoMemory) }
+    ensures empty { IfOk result (λ r. (r.0.forest.journal ≡ []) × (r.0.forest.clock ≡ 0) × (r.0.waiting ≡ [])) }
+    ensures fresh { IfOk result (λ r. (r.0.forest.fresh ≡ nothing_fresh) × (r.0.forest.needed ≡ 0) × (r.0.forest.waiting ≡ 0)) }
+    ensures readable { IfOk result (λ r. r.0.readable ≡ []) }
+    ensures sealed { IfOk result (λ r. r.0.forest.sealed ≡ nothing_sealed registries.now.limit) }
+    ensures shares { IfOk result (λ r. r.1 ≡ shares) }
+    ensures beside { IfOk result (λ r. IfOk opened (λ o. r.2 ≡ o.1)) }
+    ensures opened { is_ok result ≡ true → is_ok opened ≡ true }
+    ensures refusal { IfErr result (λ refusal. refusal ≡ Refusal.NoMemory) }
+{
+    let rows = Rows::new(alloc, registries);
+    over_made(alloc, names, shares, latest, opened, rows)
+}
+
 impl<T, V, A, S, R> Store<Forest<Rows<T, A, S>, A>, Copies<V, A, S, R>, A, S>
 where
     T: EmptyRows<A> + Drop,
@@ -204,8 +237,7 @@ where
         let page = Published::new(version, names.1.front());
         let opened = open(alloc, rt, &page, readers);
         drop(page);
-        let rows = Rows::new(alloc, registries);
-        over_made(alloc, names, shares, latest, opened, rows)
+        over_rows(alloc, registries, names, shares, latest, opened)
     }
 }
 

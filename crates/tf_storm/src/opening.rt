@@ -20,7 +20,7 @@ use tf_readers::{Copies, Publishable, Reader};
 use tf_records::Refusal;
 use tf_rows::{EmptyRows, SealRows};
 use tf_store::{BlankStore, Share, StoreName, StoreOf, VersionCopies, VersionOf};
-use tf_workers::{Done, Gate, StormFault, Totals, storm};
+use tf_workers::{Done, Gate, SharedStore, StormFault, Totals, storm_shared};
 
 /// What a storm counted, and what each of its workers did.
 pub(crate) type Counted = (Totals, Vec<Done, Global>);
@@ -200,26 +200,27 @@ where
 {
     let works = tasks.works.as_slice();
     let asks = tasks.asks.as_slice();
-    told(storm(rt, alloc, alloc, store, shares, readers, works, asks, gate))
+    let shared = SharedStore::new(store);
+    told(storm_shared(rt, alloc, alloc, shared, shares, readers, works, asks, gate))
 }
 
 /// What was counted, once the store is dropped.
 fn told<T, C, S>(
-    ended: Result<(StoreOf<T, C, Global, S>, Totals, Vec<Done, Global>), StormFault>,
+    ended: Result<(SharedStore<T, C, Global, S>, Totals, Vec<Done, Global>), StormFault>,
 ) -> Result<Counted, RunStormFault>
 where
     T: SealRows<Global> + Drop,
     C: VersionCopies<Version<Global, S>, S> + Drop,
     S: StoreName,
-    requires stored { IfOk ended (λ e. e.1.stored ≡ book_of e.0.forest.journal) }
+    requires stored { IfOk ended (λ e. e.1.stored ≡ book_of e.0.store.forest.journal) }
     ensures same { is_ok result ≡ is_ok ended }
     ensures totals { IfOk result (λ counted. IfOk ended (λ e. (counted.0 ≡ e.1) × IsBook e.1.stored)) }
     ensures fault { IfErr result StopsWorking }
 {
     match ended {
-        Ok((store, totals, done)) => {
-            let totals = settled(&store, totals);
-            store.close();
+        Ok((shared, totals, done)) => {
+            let totals = settled(&shared, totals);
+            close(shared);
             Ok((totals, done))
         }
         Err(StormFault::NoMemory) => Err(RunStormFault::Run(RunFault::NoMemory)),
@@ -228,15 +229,25 @@ where
 }
 
 /// The totals of a storm, whose store has a lawful journal.
-fn settled<T, C, S>(store: &StoreOf<T, C, Global, S>, totals: Totals) -> Totals
+fn settled<T, C, S>(shared: &SharedStore<T, C, Global, S>, totals: Totals) -> Totals
 where
     T: SealRows<Global> + Drop,
     C: VersionCopies<Version<Global, S>, S> + Drop,
     S: StoreName,
-    requires { totals.stored ≡ book_of store.now.forest.journal }
+    requires { totals.stored ≡ book_of shared.now.store.forest.journal }
     ensures same { result ≡ totals }
     ensures book { IsBook result.stored }
 {
-    store.facts();
+    shared.store.facts();
     totals
+}
+
+/// Uses a store up. It is a function of its own: no other here compares what the store's parts make up.
+fn close<T, C, S>(shared: SharedStore<T, C, Global, S>)
+where
+    T: SealRows<Global> + Drop,
+    C: VersionCopies<Version<Global, S>, S> + Drop,
+    S: StoreName,
+{
+    shared.into_store().close();
 }

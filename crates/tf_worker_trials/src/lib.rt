@@ -2,14 +2,14 @@
 //! For tests alone.
 #![tactic(auto)]
 
-mod alone;
+mod calls;
 mod lock;
+mod new_store;
 mod receipts;
-mod shared;
 mod trials;
 mod turns;
 
-pub use alone::try_on;
+pub use new_store::try_on;
 pub use tf_task_trials::{
     CountingGate, Meetings, Tasks, WatchedReader, one_client, random_tasks, storm_of,
 };

@@ -1,6 +1,6 @@
 //! One thread that locks a store and publishes.
 
-use crate::shared::{end, stores_one};
+use crate::calls::{publish, stores_one, take_book};
 use std::alloc::Global;
 use std::marker::{Send, Sync};
 use std::sync::{Mutex, Wait};
@@ -40,7 +40,7 @@ where
     R: Wait,
 {
     fn publish(&self) -> Option<usize> {
-        count(self.store.lock(self.rt).store.publish(self.rt))
+        count(publish(self.rt, &mut self.store.lock(self.rt)))
     }
 }
 
@@ -85,5 +85,5 @@ where
     let lock = Mutex::new(shared);
     let receipts = publish_in_thread(rt, &Lent { rt, store: &lock });
     let is_seen = sees(alloc, &mut reader) == Some(true);
-    end(lock.into_inner()) == 1 && is_stored && receipts == Some(1) && is_seen
+    take_book(lock.into_inner()) == 1 && is_stored && receipts == Some(1) && is_seen
 }

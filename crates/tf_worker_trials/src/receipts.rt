@@ -1,6 +1,6 @@
 //! A receipt, of which a reader learns.
 
-use crate::shared::{end, stores_one};
+use crate::calls::{publish, stores_one, take_book};
 use std::alloc::Global;
 use std::sync::Wait;
 use tf_query::Version;
@@ -25,22 +25,6 @@ fn show_all<V: Publishable + Drop, S: StoreName>(
     receipts.len()
 }
 
-/// Publishes, and tells a reader of the receipts. Gives their number.
-fn publish_to<T, C, V, S, R>(
-    rt: &R,
-    shared: &mut SharedStore<T, C, Global, S>,
-    reader: &mut Reader<V, Global, S>,
-) -> usize
-where
-    T: SealRows<Global> + Drop,
-    C: VersionCopies<Version<Global, S>, S> + Drop,
-    V: Publishable + Drop,
-    S: StoreName,
-    R: Wait,
-{
-    show_all(shared.store.publish(rt), reader)
-}
-
 /// Whether a reader sees an account only once it is published, and has learned of its receipt. Ends the store.
 pub(crate) fn learn<T, C, V, S, R>(
     rt: &R,
@@ -59,7 +43,7 @@ where
     let (mut shared, mut share, mut reader) = (shared, share, reader);
     let is_stored = stores_one(&mut shared, &mut share);
     let is_early = sees(alloc, &mut reader) != Some(false);
-    let receipts = publish_to(rt, &mut shared, &mut reader);
+    let receipts = show_all(publish(rt, &mut shared), &mut reader);
     let is_seen = sees(alloc, &mut reader) == Some(true);
-    end(shared) == 1 && is_stored && !is_early && receipts == 1 && is_seen
+    take_book(shared) == 1 && is_stored && !is_early && receipts == 1 && is_seen
 }

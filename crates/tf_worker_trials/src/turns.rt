@@ -1,7 +1,7 @@
 //! Workers one after another, in one thread.
 ghost use Rattle.std.specs.Prelude.{◌≡◌, IfOk};
 
-use crate::shared::{end, expiry_tables};
+use crate::calls::{expiry_tables, take_book};
 use std::alloc::{AllocError, Global};
 use std::sync::{Mutex, Wait};
 use tf_manifest::Job;
@@ -230,7 +230,7 @@ where
     let merges = merge_in_turn(rt, alloc, &lock, share, &mut reader, work);
     let gate = CountingGate::new();
     let asked = query_worker(alloc, reader, asks, 2, &gate);
-    let book = end(lock.into_inner());
+    let book = take_book(lock.into_inner());
     match merges {
         Ok(merges) => Some(Turns {
             merges,

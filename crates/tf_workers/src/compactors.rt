@@ -13,7 +13,7 @@ use tf_query::Version;
 use tf_records::Refusal;
 use tf_registry::Uninstalled;
 use tf_rows::{MutableRows, SealRows};
-use tf_store::{Share, StoreName, StoreOf, StoredCopies, VersionCopies};
+use tf_store::{Share, StoreName, StoredCopies, VersionCopies};
 
 /// Whether a merged table stands in the place of its run.
 fn was_installed<M: Drop>(outcome: Result<(), Uninstalled<M>>) -> Result<bool, WantOfMemory>
@@ -29,7 +29,7 @@ fn was_installed<M: Drop>(outcome: Result<(), Uninstalled<M>>) -> Result<bool, W
 /// Puts a merged table in the place of its run, and tells whether it stands there.
 fn install<T, C, A, S, R>(
     rt: &R,
-    store: &mut StoreOf<T, C, A, S>,
+    shared: &mut SharedStore<T, C, A, S>,
     merged: Merged<A, S>,
 ) -> Result<bool, WantOfMemory>
 where
@@ -39,7 +39,7 @@ where
     S: StoreName,
     R: Wait,
 {
-    was_installed(store.install(rt, merged))
+    was_installed(shared.store.install(rt, merged))
 }
 
 /// Puts a merged table in the place of its run under the lock.
@@ -55,7 +55,7 @@ where
     S: StoreName,
     R: Wait,
 {
-    install(rt, &mut store.lock(rt).store, merged)
+    install(rt, &mut store.lock(rt), merged)
 }
 
 /// Merges a job, and installs what it merged.

@@ -4,7 +4,7 @@ use crate::Work;
 use crate::compactors::compact;
 use crate::sections::section;
 use crate::shared::SharedStore;
-use std::alloc::{Allocator, Global};
+use std::alloc::Global;
 use std::sync::{Mutex, Wait};
 use tf_crew::{Section, WantOfMemory};
 use tf_manifest::Job;
@@ -24,22 +24,21 @@ pub(crate) trait Critical<H: Drop, J: Drop> {
 
 /// What a worker has beside what it is given at each call: the lock of a store, and where memory is taken.
 #[derive(Drop)]
-pub(crate) struct Desk<'a, T, C, A, S, R>
+pub(crate) struct Desk<'a, T, C, S, R>
 where
     T: MutableRows + Drop,
     C: StoredCopies + Drop,
-    A: Allocator + Copy,
     S: StoreName,
 {
     pub(crate) rt: &'a R,
     /// What the store takes lies here.
-    pub(crate) alloc: A,
+    pub(crate) alloc: Global,
     /// What threads share beside it lies here.
     pub(crate) lists: Global,
-    pub(crate) store: &'a Mutex<SharedStore<T, C, A, S>>,
+    pub(crate) store: &'a Mutex<SharedStore<T, C, Global, S>>,
 }
 
-impl<T, C, S, R> Critical<Share<S>, Job<Global, S>> for Desk<'_, T, C, Global, S, R>
+impl<T, C, S, R> Critical<Share<S>, Job<Global, S>> for Desk<'_, T, C, S, R>
 where
     T: SealRows<Global> + Drop,
     C: VersionCopies<Version<Global, S>, S> + Drop,

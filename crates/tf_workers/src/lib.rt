@@ -6,6 +6,8 @@
 //! them in threads of their own and joins them: what the clients counted together is what is stored.
 #![tactic(auto)]
 
+mod books;
+mod by_lock;
 mod clients;
 mod compactors;
 mod desk;
@@ -17,7 +19,7 @@ mod work;
 pub use clients::client;
 pub use compactors::compactor;
 pub use shared::SharedStore;
-pub use storms::{Totals, storm};
+pub use storms::{Totals, storm, storm_shared};
 pub use tf_asking::{Ask, VersionReader, query_worker};
 pub use tf_crew::{Asked, Compacted, Done, Ended, Gate, OpenGate, StormFault};
 pub use tf_jobs::{JobQueue, JobSeat, Reckoning, reckon};

@@ -11,7 +11,7 @@ use tf_manifest::{Job, Row};
 use tf_query::Version;
 use tf_records::{BATCH_MAX, Refusal};
 use tf_rows::{AllRows, MutableRows, SealRows};
-use tf_store::{Events, Share, Store, StoreName, StoreOf, StoredCopies, VersionCopies};
+use tf_store::{Events, Share, Store, StoreName, StoredCopies, VersionCopies};
 
 /// What a client does under the lock, with a copy of the events that was made before.
 #[derive(Drop)]
@@ -71,8 +71,23 @@ where
     }
 }
 
+/// The same at a store that threads share, whose type names its parts alone.
+fn run_step_at<T, C, A, S>(
+    shared: &mut SharedStore<T, C, A, S>,
+    step: Step<A>,
+    share: &mut Share<S>,
+) -> Result<(), WantOfMemory>
+where
+    T: MutableRows + Drop,
+    C: StoredCopies + Drop,
+    A: Allocator + Copy,
+    S: StoreName,
+{
+    run_step(&mut shared.store, step, share)
+}
+
 /// Publishes. A full registry is passed over.
-fn publish<T, C, A, S, R>(rt: &R, store: &mut StoreOf<T, C, A, S>) -> Result<(), WantOfMemory>
+fn publish<T, C, A, S, R>(rt: &R, shared: &mut SharedStore<T, C, A, S>) -> Result<(), WantOfMemory>
 where
     T: SealRows<A> + Drop,
     C: VersionCopies<Version<A, S>, S> + Drop,
@@ -80,12 +95,12 @@ where
     S: StoreName,
     R: Wait,
 {
-    pass_over(store.publish(rt))
+    pass_over(shared.store.publish(rt))
 }
 
 /// Picks the run of each row that has one.
 fn pick_all<T, C, A, S>(
-    store: &StoreOf<T, C, A, S>,
+    shared: &SharedStore<T, C, A, S>,
     jobs: &mut Vec<Job<A, S>, Global>,
 ) -> Result<(), AllocError>
 where
@@ -95,7 +110,7 @@ where
     S: StoreName,
 {
     for row in Row::ALL {
-        keep(store.pick(row)?, jobs)?;
+        keep(shared.store.pick(row)?, jobs)?;
     }
     Ok(())
 }
@@ -114,7 +129,7 @@ fn keep<J: Drop>(found: Option<J>, jobs: &mut Vec<J, Global>) -> Result<(), Allo
 /// Does a step, publishes, and picks.
 fn run_locked<T, C, A, S, R>(
     rt: &R,
-    store: &mut StoreOf<T, C, A, S>,
+    shared: &mut SharedStore<T, C, A, S>,
     step: Step<A>,
     share: &mut Share<S>,
     jobs: &mut Vec<Job<A, S>, Global>,
@@ -126,9 +141,9 @@ where
     S: StoreName,
     R: Wait,
 {
-    run_step(store, step, share)?;
-    publish(rt, store)?;
-    pick_all(store, jobs)?;
+    run_step_at(shared, step, share)?;
+    publish(rt, shared)?;
+    pick_all(shared, jobs)?;
     Ok(())
 }
 
@@ -150,7 +165,7 @@ where
 {
     let step = step_of(alloc, work)?;
     let mut jobs = Vec::with_capacity(lists, Row::ALL.len())?;
-    run_locked(rt, &mut store.lock(rt).store, step, share, &mut jobs)?;
+    run_locked(rt, &mut store.lock(rt), step, share, &mut jobs)?;
     Ok(jobs)
 }
 

@@ -3,18 +3,18 @@ ghost use Rattle.std.specs.Prelude.{◌≡◌, ◌<◌, ◌≤◌, length, vec_l
 ghost use Rattle.tf_store.specs.Book.{book_of};
 
 use crate::Work;
-use crate::desk::{Critical, Desk};
+use crate::books::settle;
+use crate::by_lock::run_all;
 use crate::shared::SharedStore;
-use std::alloc::{Allocator, Global};
+use std::alloc::Global;
 use std::marker::{Send, Sync};
 use std::sync::{Mutex, Wait};
 use std::thread::Threads;
-use tf_asking::{Ask, VersionReader, answer_of_list};
-use tf_crew::{Done, Gate, Joined, StormFault, run_crew};
-use tf_forest::Forest;
+use tf_asking::{Ask, VersionReader};
+use tf_crew::{Done, Gate, StormFault};
 use tf_query::Version;
-use tf_rows::{AllRows, MutableRows, SealRows};
-use tf_store::{Share, Store, StoreName, StoreOf, StoredCopies, VersionCopies};
+use tf_rows::SealRows;
+use tf_store::{Share, StoreName, StoreOf, VersionCopies};
 
 /// What a storm counted.
 #[derive(Clone, Copy, PartialEq, Eq, Debug)]
@@ -29,90 +29,18 @@ pub struct Totals {
     pub complete: bool,
 }
 
-/// The piece of this number of the work of the client with this one.
-fn piece(scripts: &[Vec<Work>], worker: u32, number: usize) -> Option<&Work> {
-    scripts.get(worker as usize)?.as_slice().get(number)
-}
-
-/// Runs all workers, of which query workers ask readers, and gives the clients' shares back. What clients and compactors do
-/// is given.
-fn run_asking<H, J, Q, D, R, G>(
-    rt: &R,
-    lists: Global,
-    desk: &D,
-    shares: Vec<H, Global>,
-    readers: Vec<Q, Global>,
-    scripts: &[Vec<Work>],
-    asks: &[Vec<Ask>],
-    gate: &G,
-) -> Result<Joined<H>, StormFault>
-where
-    H: Send + Drop,
-    J: Send + Sync + Drop,
-    Q: VersionReader + Send + Drop,
-    D: Critical<H, J> + Sync,
-    R: Wait + Threads + Sync,
-    G: Gate + Sync,
-    requires some { (0 < length scripts.now) × (length scripts.now ≤ 64) }
-    requires asks { (length asks.now ≤ 64) × (vec_len readers ≤ length asks.now) }
-    requires shares { vec_len shares ≡ length scripts.now }
-    ensures { IfOk result (λ joined. vec_len joined.shares ≡ length scripts.now) }
-{
-    let run = |worker: u32, place: usize, share: H| desk.section(
-        piece(scripts, worker, place),
-        share,
-    );
-    let merge = |job: J| desk.merge(job);
-    let first = scripts.len();
-    let ask = |worker: u32, number: usize, reader: Q| answer_of_list(
-        lists,
-        asks,
-        first,
-        (worker, number),
-        reader,
-    );
-    run_crew(
-        rt, lists, &run, &merge, &ask, shares, readers, scripts, asks, gate,
-    )
-}
-
-/// Runs all workers round the lock of a store, and gives the clients' shares back.
-fn run_locked<T, C, S, Q, R, G>(
-    rt: &R,
-    desk: &Desk<'_, T, C, Global, S, R>,
-    shares: Vec<Share<S>, Global>,
-    readers: Vec<Q, Global>,
-    scripts: &[Vec<Work>],
-    asks: &[Vec<Ask>],
-    gate: &G,
-) -> Result<Joined<Share<S>>, StormFault>
-where
-    T: SealRows<Global> + Send + Drop,
-    C: VersionCopies<Version<Global, S>, S> + Send + Drop,
-    S: StoreName + Send + Sync,
-    Q: VersionReader + Send + Drop,
-    R: Wait + Threads + Sync,
-    G: Gate + Sync,
-    requires some { (0 < length scripts.now) × (length scripts.now ≤ 64) }
-    requires asks { (length asks.now ≤ 64) × (vec_len readers ≤ length asks.now) }
-    requires shares { vec_len shares ≡ length scripts.now }
-    ensures { IfOk result (λ joined. vec_len joined.shares ≡ length scripts.now) }
-{
-    run_asking(rt, desk.lists, desk, shares, readers, scripts, asks, gate)
-}
-
-/// The same, at a desk of their own.
-fn run_all<T, C, S, Q, R, G>(
+/// Runs a storm as [`storm`] does, over a store that threads share: whoever calls it compares no more than the store's parts.
+pub fn storm_shared<T, C, S, Q, R, G>(
     rt: &R,
     lists: Global,
     alloc: Global,
-    store: &Mutex<SharedStore<T, C, Global, S>>,
+    shared: SharedStore<T, C, Global, S>,
     shares: Vec<Share<S>, Global>,
     readers: Vec<Q, Global>,
     scripts: &[Vec<Work>],
     asks: &[Vec<Ask>],
     gate: &G,
-) -> Result<Joined<Share<S>>, StormFault>
+) -> Result<(SharedStore<T, C, Global, S>, Totals, Vec<Done, Global>), StormFault>
 where
     T: SealRows<Global> + Send + Drop,
     C: VersionCopies<Version<Global, S>, S> + Send + Drop,
@@ -122,59 +50,16 @@ where
     G: Gate + Sync,
     requires some { (0 < length scripts.now) × (length scripts.now ≤ 64) }
     requires asks { (length asks.now ≤ 64) × (vec_len readers ≤ length asks.now) }
-    requires shares { vec_len shares ≡ length scripts.now }
-    ensures { IfOk result (λ joined. vec_len joined.shares ≡ length scripts.now) }
-{
-    let desk = Desk {
-        rt,
-        alloc,
-        lists,
-        store,
-    };
-    run_locked(rt, &desk, shares, readers, scripts, asks, gate)
-}
-
-/// The store and what was counted, once all workers are joined.
-fn settle<F, C, A, S>(
-    store: Store<Forest<F, A>, C, A, S>,
-    clients: u64,
-    joined: Result<Joined<Share<S>>, StormFault>,
-) -> Result<(Store<Forest<F, A>, C, A, S>, Totals, Vec<Done, Global>), StormFault>
-where
-    F: AllRows + Drop,
-    C: StoredCopies + Drop,
-    A: Allocator + Copy,
-    S: StoreName,
-    requires some { 0 < clients }
-    requires all { clients ≡ S.parts }
-    requires shares { IfOk joined (λ joined. vec_len joined.shares ≡ clients) }
-    ensures clients { IfOk result (λ r. r.1.clients ≡ clients) }
-    ensures stored { IfOk result (λ r. r.1.stored ≡ book_of r.0.forest.journal) }
+    requires shares { (vec_len shares ≡ length scripts.now) × (vec_len shares ≡ S.parts) }
+    ensures clients { IfOk result (λ r. r.1.clients ≡ length scripts.now) }
+    ensures stored { IfOk result (λ r. r.1.stored ≡ book_of r.0.store.forest.journal) }
     ensures shares { IfOk result (λ r. r.1.shares ≡ r.1.stored) }
 {
-    match joined {
-        Ok(
-            Joined {
-                shares,
-                done,
-                complete,
-            },
-        ) => {
-            let mut store = store;
-            let sum = store.gather(shares);
-            let totals = Totals {
-                clients,
-                stored: store.book(),
-                shares: sum,
-                complete,
-            };
-            Ok((store, totals, done))
-        }
-        Err(fault) => {
-            store.close();
-            Err(fault)
-        }
-    }
+    let lock = Mutex::new(shared);
+    let joined = run_all(
+        rt, lists, alloc, &lock, shares, readers, scripts, asks, gate,
+    );
+    settle(lock.into_inner(), scripts.len() as u64, joined)
 }
 
 /// Runs a client for each script over a store, with a query worker for each reader and two compactors beside them, each in a thread
@@ -213,9 +98,11 @@ where
     ensures stored { IfOk result (λ r. r.1.stored ≡ book_of r.0.forest.journal) }
     ensures shares { IfOk result (λ r. r.1.shares ≡ r.1.stored) }
 {
-    let lock = Mutex::new(SharedStore::new(store));
-    let joined = run_all(
-        rt, lists, alloc, &lock, shares, readers, scripts, asks, gate,
-    );
-    settle(lock.into_inner().into_store(), scripts.len() as u64, joined)
+    let shared = SharedStore::new(store);
+    match storm_shared(
+        rt, lists, alloc, shared, shares, readers, scripts, asks, gate,
+    ) {
+        Ok((shared, totals, done)) => Ok((shared.into_store(), totals, done)),
+        Err(fault) => Err(fault),
+    }
 }

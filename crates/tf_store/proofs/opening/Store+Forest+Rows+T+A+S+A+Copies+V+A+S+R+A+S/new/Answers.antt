@@ -10,55 +10,46 @@ use Rattle.tf_store.proofs.opening.Store+Forest+Rows+T+A+S+A+Copies+V+A+S+R+A+S.
 pub new-page-requires : goal.new-page-requires
 new-page-requires g c = c.in-Ok.ensures.versions.1 ∙ sym (c.front.ensures ∙ ap (λ (w : Written). w.journal) c.in-Ok.ensures.names.1)
 
-pub over_made-requires-clause-names : goal.over_made-requires-clause-names
-over_made-requires-clause-names g c = c.in-Ok.ensures.names
+pub over_rows-requires-clause-names : goal.over_rows-requires-clause-names
+over_rows-requires-clause-names g c = c.in-Ok.ensures.names
 
-pub over_made-requires-clause-latest : goal.over_made-requires-clause-latest
-over_made-requires-clause-latest g c = c.in-Ok.ensures.versions.0
+pub over_rows-requires-clause-latest : goal.over_rows-requires-clause-latest
+over_rows-requires-clause-latest g c = c.in-Ok.ensures.versions.0
 
-pub over_made-requires-clause-shown : goal.over_made-requires-clause-shown
-over_made-requires-clause-shown g c =
+pub over_rows-requires-clause-shown : goal.over_rows-requires-clause-shown
+over_rows-requires-clause-shown g c =
     let empty = c.new-page.ensures ∙ c.front.ensures ∙ ap (λ (w : Written). w.journal) c.in-Ok.ensures.names.1 in
     subst (λ l. IfOk c.open-opened.result (λ o. published o.0 ≡ l)) empty c.open-opened.ensures.shown
 
-pub over_made-requires-clause-none : goal.over_made-requires-clause-none
-over_made-requires-clause-none g c = c.open-opened.ensures.refusal
-
-pub over_made-requires-clause-empty : goal.over_made-requires-clause-empty
-over_made-requires-clause-empty g c = c.new-rows.ensures.empty
-
-pub over_made-requires-clause-sealed : goal.over_made-requires-clause-sealed
-over_made-requires-clause-sealed g c = (c.args.registries.now.limit, c.new-rows.ensures.sealed)
-
-pub over_made-requires-clause-refusal : goal.over_made-requires-clause-refusal
-over_made-requires-clause-refusal g c = c.new-rows.ensures.refusal
+pub over_rows-requires-clause-none : goal.over_rows-requires-clause-none
+over_rows-requires-clause-none g c = c.open-opened.ensures.refusal
 
 pub returns-clause-empty : goal.returns-clause-empty
-returns-clause-empty g c = c.over_made.ensures.empty
+returns-clause-empty g c = c.over_rows.ensures.empty
 
 pub returns-clause-fresh : goal.returns-clause-fresh
-returns-clause-fresh g c = c.over_made.ensures.fresh
+returns-clause-fresh g c = c.over_rows.ensures.fresh
 
 pub returns-clause-readable : goal.returns-clause-readable
-returns-clause-readable g c = c.over_made.ensures.readable
+returns-clause-readable g c = c.over_rows.ensures.readable
 
 pub returns-clause-sealed : goal.returns-clause-sealed
-returns-clause-sealed g c = c.over_made.ensures.sealed c.args.registries.now.limit c.new-rows.ensures.sealed
+returns-clause-sealed g c = c.over_rows.ensures.sealed
 
 pub returns-clause-shares : goal.returns-clause-shares
 returns-clause-shares g c =
-    same_ok c.over_made.result (λ r. r.1) c.in-Ok.begun.1 (λ l. (vec_len l ≡ c.args.shares) × All (λ s. s ≡ 0) l.items) c.over_made.ensures.shares c.in-Ok.ensures.shares
+    same_ok c.over_rows.result (λ r. r.1) c.in-Ok.begun.1 (λ l. (vec_len l ≡ c.args.shares) × All (λ s. s ≡ 0) l.items) c.over_rows.ensures.shares c.in-Ok.ensures.shares
 
 pub returns-clause-readers : goal.returns-clause-readers
 returns-clause-readers g c =
     let empty = c.new-page.ensures ∙ c.front.ensures ∙ ap (λ (w : Written). w.journal) c.in-Ok.ensures.names.1 in
-    carried c.open-opened.result c.over_made.result (λ o. o.1) (λ r. r.2) (λ h. (vec_len h ≡ c.args.readers) × All (HasSeen []) h.items)
-    c.over_made.ensures.opened c.over_made.ensures.beside
+    carried c.open-opened.result c.over_rows.result (λ o. o.1) (λ r. r.2) (λ h. (vec_len h ≡ c.args.readers) × All (HasSeen []) h.items)
+    c.over_rows.ensures.opened c.over_rows.ensures.beside
     (both_ok c.open-opened.result (λ o. vec_len o.1 ≡ c.args.readers) (λ o. All (HasSeen []) o.1.items) c.open-opened.ensures.count
     (subst (λ l. IfOk c.open-opened.result (λ o. All (HasSeen l) o.1.items)) empty c.open-opened.ensures.readers))
 
 pub returns-clause-refusal : goal.returns-clause-refusal
-returns-clause-refusal g c = c.over_made.ensures.refusal
+returns-clause-refusal g c = c.over_rows.ensures.refusal
 
 pub returns-in-Err-clause-refusal : goal.returns-in-Err-clause-refusal
 returns-in-Err-clause-refusal g c = c.in-Err.ensures.refusal

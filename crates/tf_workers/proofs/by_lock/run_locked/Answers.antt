@@ -4,7 +4,7 @@ use denote.Param.Send.{sendable}
 use Rattle.tf_store.proofs.Crossing.{forest-send, rows-send, store-send}
 use Rattle.tf_store.proofs.OnHeap.{heap-send, heap-sync, heap-frees}
 use Rattle.tf_workers.proofs.work.Work.TheSendSync as work
-use Rattle.tf_workers.proofs.storms.run_locked.Goals as goal
+use Rattle.tf_workers.proofs.by_lock.run_locked.Goals as goal
 
 pub run_asking-requires-sync-D : goal.run_asking-requires-sync-D
 run_asking-requires-sync-D g c κs within =

@@ -1,9 +1,9 @@
 //! Trials on a new store, which is ended. They are generic in all that a store is made of.
 ghost use Rattle.std.specs.Prelude.{◌≡◌, ◌<◌, ◌≤◌, vec_len};
 
+use crate::calls::take_book;
 use crate::lock::publish_beside;
 use crate::receipts::learn;
-use crate::shared::end;
 use crate::trials::{Trial, Tried};
 use crate::turns::take_turns;
 use std::alloc::Global;
@@ -15,7 +15,7 @@ use tf_readers::{Publishable, Reader};
 use tf_rows::SealRows;
 use tf_store::{Share, StoreName, StoreOf, VersionCopies};
 use tf_task_trials::{Meetings, Tasks, WatchedReader, watched};
-use tf_workers::{Done, SharedStore, Totals, storm};
+use tf_workers::{Done, SharedStore, Totals, storm_shared};
 
 /// Runs a trial on a new store with a share for each client and two readers.
 pub fn try_on<T, S, C, V, R>(
@@ -43,7 +43,7 @@ where
     match watched(alloc, readers, tasks.answers) {
         Ok(readers) => try_watched(rt, alloc, shared, shares, readers, tasks, trial, gate),
         Err(_) => {
-            end(shared);
+            take_book(shared);
             Tried::Nothing
         }
     }
@@ -75,8 +75,7 @@ where
         Trial::Storm => {
             let works = tasks.works.as_slice();
             let asks = tasks.asks.as_slice();
-            let store = shared.into_store();
-            told(storm(rt, alloc, alloc, store, shares, readers, works, asks, gate))
+            told(storm_shared(rt, alloc, alloc, shared, shares, readers, works, asks, gate))
         }
         _ => try_alone(rt, alloc, shared, shares, readers, tasks, trial),
     }
@@ -130,7 +129,7 @@ where
     let mut shares = shares;
     let mut readers = readers;
     let (Some(share), Some(reader)) = (shares.pop(), readers.pop()) else {
-        end(shared);
+        take_book(shared);
         return Tried::Nothing;
     };
     match trial {
