@@ -7,7 +7,8 @@ from measuring import SEED, UNPROVED, build_plain, made_by, measure, write_secti
 from unproved import build
 
 HEADING = "A ledger with readers"
-TIMES = 3
+# odd, so that a median is that of a run
+TIMES = 7
 COUNT = 1_000_000
 # the workloads, with how many clients and how many readers they have
 SHARED = {"shared_0": (1, 0), "shared_1": (1, 1), "shared_3": (1, 3), "shared_16": (1, 16), "clients_4": (4, 3)}
@@ -51,28 +52,36 @@ class Side:
 
     def queries(self):
         """Of all readers, in a second."""
-        return statistics.median(numbers[-1] / numbers[self.wall] * 1e9 for numbers in self.runs)
+        return statistics.median(self.each())
 
     def transfers(self):
         """In a second of what the batches and publishes took of the client that took longest, with what they waited for the lock."""
         return COUNT / self.median(1) * 1e9
+
+    def each(self):
+        """The queries a second of each run, in the order of the turns."""
+        return [numbers[-1] / numbers[self.wall] * 1e9 for numbers in self.runs]
 
     def held(self):
         """For how many milliseconds at most the lock was held, by each kind of call."""
         return [self.median(place) / 1e6 for place in range(self.wall + 1, len(self.runs[0]) - 1)]
 
 
-def compared(programs, name):
-    """Ours and the plain side of a workload. They take turns."""
-    ours = Side(6, programs[0], name, COUNT, SEED, "merged")
-    plain = Side(3, programs[1], name, COUNT, SEED)
-    for _ in range(TIMES):
-        ours.run()
-        plain.run()
-    checksums = ours.checksums | plain.checksums
-    if len(checksums) != 1:
-        sys.exit(f"bench/run: {name}: the checksums differ: {sorted(checksums)}")
-    return ours, plain
+def sides_of(programs, name):
+    """Ours and the plain side of a workload, not run yet."""
+    return Side(6, programs[0], name, COUNT, SEED, "merged"), Side(3, programs[1], name, COUNT, SEED)
+
+
+def run_in_turns(sides):
+    """Each turn runs all workloads by both sides, so that a machine that slows down slows all that is compared."""
+    for turn in range(TIMES):
+        for name, both in sides.items():
+            for side in both:
+                side.run()
+            checksums = both[0].checksums | both[1].checksums
+            if len(checksums) != 1:
+                sys.exit(f"bench/run: {name}: the checksums differ: {sorted(checksums)}")
+        print(f"turn {turn + 1} of {TIMES}", file=sys.stderr, flush=True)
 
 
 def row(name, ours, plain):
@@ -95,7 +104,11 @@ def wanted(sides):
         ours, plain = sides[name]
         ratio = ours.queries() / plain.queries()
         met = "met" if ratio >= times else "missed"
-        lines.append(f"- with {SHARED[name][1]} readers {ratio:.2f} times the queries a second of the plain ledger, of at least {times} that are wanted: {met}")
+        turns = ", ".join(f"{one / other:.0f}" for one, other in zip(ours.each(), plain.each()))
+        lines.append(
+            f"- with {SHARED[name][1]} readers {ratio:.2f} times the queries a second of the plain ledger, of at least {times} that are wanted: {met} "
+            f"(turn by turn {turns}, where the plain ledger's got {min(plain.each()):,.0f} to {max(plain.each()):,.0f} and ours {min(ours.each()):,.0f} to {max(ours.each()):,.0f})"
+        )
     for name, (clients, readers) in SHARED.items():
         if readers <= SHARED[ALONE][1] or clients > 1:
             continue
@@ -112,20 +125,18 @@ def wanted(sides):
         (beside,) = (one for one, shape in SHARED.items() if shape == (1, readers))
         gain = sides[name][0].transfers() / sides[beside][0].transfers()
         met = "met" if gain >= 1 else "missed"
-        lines.append(f"- {clients} clients store {gain:.2f} of what one does beside {readers} readers, of at least 1 that is wanted: {met}")
+        turns = ", ".join(f"{one[1] / many[1]:.2f}" for one, many in zip(sides[beside][0].runs, sides[name][0].runs))
+        lines.append(f"- {clients} clients store {gain:.2f} of what one does beside {readers} readers, of at least 1 that is wanted: {met} (turn by turn {turns})")
     return lines
 
 
 def run(words):
     """Runs the workloads whose names contain one of the words, or all of them, and then writes their section."""
     programs = build("tf_ledger_bench"), build_plain("ledger")
-    print("\n".join(HEAD), flush=True)
-    rows, sides = [], {}
-    for name in SHARED:
-        if not words or any(word in name for word in words):
-            sides[name] = compared(programs, name)
-            rows.append(row(name, *sides[name]))
-            print(rows[-1], flush=True)
+    sides = {name: sides_of(programs, name) for name in SHARED if not words or any(word in name for word in words)}
+    run_in_turns(sides)
+    rows = [row(name, *both) for name, both in sides.items()]
+    print("\n".join(HEAD + rows), flush=True)
     if not words:
         targets = wanted(sides)
         print("\n".join(targets), flush=True)
@@ -135,7 +146,7 @@ def run(words):
 def text(rows, targets):
     """The section of a whole run."""
     return (
-        f"{made_by(' shared')} {UNPROVED} A number is the median of {TIMES} runs, the sides taking turns; a peak is the greatest memory of a "
+        f"{made_by(' shared')} {UNPROVED} A number is the median of {TIMES} turns, in each of which every workload runs once by both sides; a peak is the greatest memory of a "
         f"process. Clients store {COUNT:,} transfers between 10,000 accounts together, each in a thread of its own, in batches of 8,190, and "
         "publish after each. Each reader, in a thread of its own, brings its version up to date and asks for the first ten transfers of "
         "an account, over and over, until all is stored. Ours is a store in a `Mutex`, which a client holds for a batch, the installs of "
