@@ -79,7 +79,7 @@ module _ {K E : Type 0} (cmp : K → K → Ordering) (o : IsTotalOrder cmp) (exa
     none_from [] e = refl
     none_from (r ∷ rs) e = absurd (none-some r.1 (sym e))
 
-  value_at-none : (key : K) (rows : List (K × E)) → of_key key rows ≡ [] → value_at cmp key rows ≡ None
+  pub value_at-none : (key : K) (rows : List (K × E)) → of_key key rows ≡ [] → value_at cmp key rows ≡ None
   value_at-none key rows e = same_values rows [] key e
 
   -- rows in key order
@@ -111,7 +111,7 @@ module _ {K E : Type 0} (cmp : K → K → Ordering) (o : IsTotalOrder cmp) (exa
       let more : length (of_key key rows) ≤ length (of_key key (r ∷ rows)) = head_cases key r rows (λ rs. length (of_key key rows) ≤ length rs) (λ _. omega arith) (λ _. omega arith) in
       omega (arith, more, once key)
 
-  once-first : (r : K × E) (rows : List (K × E)) → Once (r ∷ rows) → of_key r.0 rows ≡ []
+  pub once-first : (r : K × E) (rows : List (K × E)) → Once (r ∷ rows) → of_key r.0 rows ≡ []
   once-first r rows once = none_from_short (of_key r.0 rows) (omega (arith, ap length (of_key-own r rows), once r.0))
 
   -- how many rows a key cuts apart
@@ -166,6 +166,10 @@ module _ {K E : Type 0} (cmp : K → K → Ordering) (o : IsTotalOrder cmp) (exa
       omega (arith, p, ap length none))
       (λ f p. omega (arith, p, once q)) parts
 
+  -- the first ones of rows
+  pub once-front : (A B : List (K × E)) → Once (A ++ B) → Once A
+  once-front A B once q = omega (arith, of_key-append q A B, once q)
+
   -- round one row
   one_key : (q : K) (r s : K × E) (A : List (K × E)) → r.0 ≡ s.0 → length (of_key q (r ∷ A)) ≡ length (of_key q (s ∷ A))
   one_key q r s A e =
@@ -181,6 +185,9 @@ module _ {K E : Type 0} (cmp : K → K → Ordering) (o : IsTotalOrder cmp) (exa
 
   once-before : (A B : List (K × E)) (r : K × E) → Once (A ++ r ∷ B) → of_key r.0 A ≡ []
   once-before A B r once = none_from_short (of_key r.0 A) (omega (arith, of_key-append r.0 A (r ∷ B), ap length (of_key-own r B), once r.0))
+
+  pub absent-before : (A B : List (K × E)) (r : K × E) → Once (A ++ r ∷ B) → value_at cmp r.0 A ≡ None
+  absent-before A B r once = value_at-none r.0 A (once-before A B r once)
 
   once-behind : (A B : List (K × E)) (r : K × E) → Once (A ++ r ∷ B) → of_key r.0 B ≡ []
   once-behind A B r once = none_from_short (of_key r.0 B) (omega (arith, of_key-append r.0 A (r ∷ B), ap length (of_key-own r B), once r.0))
@@ -206,7 +213,7 @@ module _ {K E : Type 0} (cmp : K → K → Ordering) (o : IsTotalOrder cmp) (exa
   rising-set (x ∷ A) B r s e rising = (AllAfter-set x.0 A B r s e rising.0, rising-set A B r s e rising.1)
 
   -- a row without its key
-  value_at-without_row : (key q : K) (rows : List (K × E)) → value_at cmp q (without_row cmp key rows) ≡ cond (is_eq (cmp key q)) None (value_at cmp q rows)
+  pub value_at-without_row : (key q : K) (rows : List (K × E)) → value_at cmp q (without_row cmp key rows) ≡ cond (is_eq (cmp key q)) None (value_at cmp q rows)
   value_at-without_row key q rows =
       value_at-append cmp o q (rows_below cmp key rows) (rows_above cmp key rows)
       ∙ ap (λ (v : Option E). first_some v (value_at cmp q (rows_above cmp key rows))) (value_at-filter cmp o exact (λ k. is_lt (cmp k key)) q rows)
@@ -228,7 +235,7 @@ module _ {K E : Type 0} (cmp : K → K → Ordering) (o : IsTotalOrder cmp) (exa
       cond-false (is_eq (cmp r.0 q)) _ _ e ∙ value_at-append cmp o q A (r ∷ B) ∙ ap (first_some (value_at cmp q A)) (value_at-there cmp o q r B e) ∙ sym (value_at-append cmp o q A B)
 
   -- with the row of the key between them they rise, so they do without it
-  IsRising-without_row : (key : K) (entry : E) (rows : List (K × E)) → IsRising cmp rows → IsRising cmp (without_row cmp key rows)
+  pub IsRising-without_row : (key : K) (entry : E) (rows : List (K × E)) → IsRising cmp rows → IsRising cmp (without_row cmp key rows)
   IsRising-without_row key entry rows rising = rising-remove (rows_below cmp key rows) (rows_above cmp key rows) (key, entry) (IsRising-with_row cmp o exact key entry rows rising)
 
   pub in_order-remove : (A B : List (K × E)) (r : K × E) → Once (A ++ r ∷ B) → overlaid cmp (A ++ B) [] ≡ without_row cmp r.0 (overlaid cmp (A ++ r ∷ B) [])

@@ -1,12 +1,12 @@
 //! A mutable table whose rows are pushed at its end.
-ghost use Rattle.std.specs.Prelude.{◌≡◌, [], ◌∷◌, ◌++◌, List, Option, Some, None, true, false, IsTrue, IsSome, IfSome, IfNone, IfOk, IfErr, OnOk, OnErr, slice_get};
+ghost use Rattle.std.specs.Prelude.{◌≡◌, ◌≤◌, [], ◌∷◌, ◌++◌, List, length, Option, Some, None, true, false, IsTrue, IsSome, IfSome, IfNone, IfOk, IfErr, OnOk, OnErr, slice_get};
 ghost use Rattle.std.specs.Option.{option_map};
 ghost use Rattle.tf_sorted.specs.Rows.{IsRising, with_row};
 ghost use Rattle.tf_table.specs.declared.key.Key.{Key};
 ghost use Rattle.tf_table.specs.Key.{key_cmp};
 ghost use Rattle.tf_table.specs.Content.{entry_at};
 ghost use Rattle.tf_table.specs.First.{IsFirstAbove};
-ghost use Rattle.tf_mutable.specs.Mutable.{in_order, IsLogged, given_back};
+ghost use Rattle.tf_mutable.specs.Mutable.{in_order, rows_of_key, IsLogged, given_back};
 
 use crate::MutableTable;
 use std::alloc::{AllocError, Allocator};
@@ -40,6 +40,16 @@ impl<V: Repeats, A: Allocator> Model for Log<V, A> {
     ghost view = { λ log. in_order log.rows.items };
 
     ghost invariant = { λ log. IsLogged log.rises log.rows.items };
+}
+
+impl<V: Repeats, A: Allocator> Log<V, A> {
+    /// The rows in the order in which they came, or in that of their keys where a seal has sorted them.
+    pub fn rows(&self) -> &[(Key, Option<V>)]
+        ensures order { in_order result.now ≡ self.now }
+        ensures once { (key : Key) → length (rows_of_key key result.now) ≤ 1 }
+    {
+        self.rows.as_slice()
+    }
 }
 
 impl<V: Repeats, A: Allocator + Clone> MutableTable<V, A> for Log<V, A> {

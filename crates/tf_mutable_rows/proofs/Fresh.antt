@@ -8,7 +8,6 @@ use Rattle.tf_journal.specs.declared.status.Status.{Status}
 use Rattle.tf_records.specs.declared.account.Account.{Account}
 use Rattle.tf_records.specs.declared.refusal.Refusal.{Refusal}
 use Rattle.tf_records.specs.declared.sums.Sums.{Sums}
-use Rattle.tf_records.specs.declared.transfer.Transfer.{Transfer}
 use Rattle.tf_table.specs.declared.key.Key.{Key}
 use Rattle.tf_table.specs.Content.{entry_at}
 use Rattle.tf_table.specs.Key.{key_cmp}
@@ -27,7 +26,12 @@ use Rattle.tf_manifest.specs.declared.value.State.{State}
 use Rattle.tf_manifest.specs.declared.value.Value.{Value}
 use Rattle.tf_manifest.specs.Kinds.{kind_of, stamp_index, unit_index}
 use Rattle.tf_manifest.specs.View.{StoredBy, value_by}
+use Rattle.tf_mutable_rows.specs.declared.transfers.Field.{Field}
+use Rattle.tf_mutable_rows.specs.declared.transfers.Field.TheVariants as field
 use Rattle.tf_mutable_rows.specs.Fresh.{Fresh, entries_by, fresh_by}
+use Rattle.tf_mutable_rows.specs.Indexes.{Keys, Objects, index_of, units_by, unit_of}
+use Rattle.tf_rows.specs.Changes.{IsSingle}
+use Rattle.tf_rows.specs.Record.{is_of_record}
 use Rattle.tf_rows.specs.Nest.{IsTree, fits_row, is_of_kind, is_tree}
 use Rattle.tf_rows.specs.Parts.{GivesBack, PutsEntry, seen_rows}
 use Rattle.tf_rows.specs.SealedRow.{IsSealedOf, entries_of_sealed, kind_of_sealed}
@@ -59,41 +63,40 @@ module _ {X : Type 0} where
   set_same (y ∷ xs) zero = refl
   set_same (y ∷ xs) (suc at) = ap (λ (ys : List (List X)). y ∷ ys) (set_same xs at)
 
-  -- one of the first ones, in front of a last one
-  pub set_first : (xs : List (List X)) (last : List X) (at : ℕ) (x : List X) → at < length xs → slice_set xs at x ++ last ∷ [] ≡ slice_set (xs ++ last ∷ []) at x
-  set_first [] last at x h = absurd (omega (arith, h))
-  set_first (y ∷ xs) last zero x h = refl
-  set_first (y ∷ xs) last (suc at) x h = ap (λ (ys : List (List X)). y ∷ ys) (set_first xs last at x (omega (arith, h)))
+  -- one of the first ones, in front of others
+  set_first : (xs rest : List (List X)) (at : ℕ) (x : List X) → at < length xs → slice_set xs at x ++ rest ≡ slice_set (xs ++ rest) at x
+  set_first [] rest at x h = absurd (omega (arith, h))
+  set_first (y ∷ xs) rest zero x h = refl
+  set_first (y ∷ xs) rest (suc at) x h = ap (λ (ys : List (List X)). y ∷ ys) (set_first xs rest at x (omega (arith, h)))
 
-  pub set_last : (xs : List (List X)) (last x : List X) (at : ℕ) → at ≡ length xs → xs ++ x ∷ [] ≡ slice_set (xs ++ last ∷ []) at x
-  set_last [] last x zero e = refl
-  set_last [] last x (suc at) e = absurd (omega (arith, e))
-  set_last (y ∷ xs) last x zero e = absurd (omega (arith, e))
-  set_last (y ∷ xs) last x (suc at) e = ap (λ (ys : List (List X)). y ∷ ys) (set_last xs last x at (omega (arith, e)))
+  pub at_first : (xs rest : List (List X)) (at : ℕ) (d : List X) → at < length xs → slice_index_or (xs ++ rest) at [] ≡ slice_index_or xs at d
+  at_first [] rest at d h = absurd (omega (arith, h))
+  at_first (y ∷ xs) rest zero d h = refl
+  at_first (y ∷ xs) rest (suc at) d h = at_first xs rest at d (omega (arith, h))
 
-  at_first : (xs : List (List X)) (last : List X) (at : ℕ) (d : List X) → at < length xs → slice_index_or (xs ++ last ∷ []) at [] ≡ slice_index_or xs at d
-  at_first [] last at d h = absurd (omega (arith, h))
-  at_first (y ∷ xs) last zero d h = refl
-  at_first (y ∷ xs) last (suc at) d h = at_first xs last at d (omega (arith, h))
+  -- one of those behind them
+  pub set_behind : (xs rest : List (List X)) (i at : ℕ) (x : List X) → at ≡ length xs + i → xs ++ slice_set rest i x ≡ slice_set (xs ++ rest) at x
+  set_behind [] rest i at x e = let same : i ≡ at = omega (arith, e) in ap (λ (n : ℕ). slice_set rest n x) same
+  set_behind (y ∷ xs) rest i zero x e = absurd (omega (arith, e))
+  set_behind (y ∷ xs) rest i (suc at) x e = ap (λ (ys : List (List X)). y ∷ ys) (set_behind xs rest i at x (omega (arith, e)))
 
-  pub at_last : (xs : List (List X)) (last : List X) (at : ℕ) → at ≡ length xs → slice_index_or (xs ++ last ∷ []) at [] ≡ last
-  at_last [] last zero e = refl
-  at_last [] last (suc at) e = absurd (omega (arith, e))
-  at_last (y ∷ xs) last zero e = absurd (omega (arith, e))
-  at_last (y ∷ xs) last (suc at) e = at_last xs last at (omega (arith, e))
+  pub at_behind : (xs rest : List (List X)) (i at : ℕ) → at ≡ length xs + i → slice_index_or (xs ++ rest) at [] ≡ slice_index_or rest i []
+  at_behind [] rest i at e = let same : at ≡ i = omega (arith, e) in ap (λ (n : ℕ). slice_index_or rest n []) same
+  at_behind (y ∷ xs) rest i zero e = absurd (omega (arith, e))
+  at_behind (y ∷ xs) rest i (suc at) e = at_behind xs rest i at (omega (arith, e))
 
-  pub index_read : (xs ys : List (List X)) (last : List X) (u : UnitRow) (at : ℕ) (d x : List X) → at ≡ unit_index u → at < 12 → length xs ≡ 12 → ys ≡ xs → x ≡ slice_index_or ys at d → slice_index_or (xs ++ last ∷ []) (unit_index u) [] ≡ x
-  index_read xs ys last u at d x e below many same is =
-      ap (λ (i : ℕ). slice_index_or (xs ++ last ∷ []) i []) (sym e)
-      ∙ at_first xs last at d (omega (arith, below, many))
+  pub index_read : (xs ys rest : List (List X)) (u : UnitRow) (at : ℕ) (d x : List X) → at ≡ unit_index u → at < 5 → length xs ≡ 5 → ys ≡ xs → x ≡ slice_index_or ys at d → slice_index_or (xs ++ rest) (unit_index u) [] ≡ x
+  index_read xs ys rest u at d x e below many same is =
+      ap (λ (i : ℕ). slice_index_or (xs ++ rest) i []) (sym e)
+      ∙ at_first xs rest at d (omega (arith, below, many))
       ∙ ap (λ (zs : List (List X)). slice_index_or zs at d) (sym same)
       ∙ sym is
 
-  pub index_set : (xs ys new : List (List X)) (last : List X) (u : UnitRow) (at : ℕ) (x : List X) → at ≡ unit_index u → at < 12 → length xs ≡ 12 → ys ≡ xs → new ≡ slice_set ys at x → new ++ last ∷ [] ≡ slice_set (xs ++ last ∷ []) (unit_index u) x
-  index_set xs ys new last u at x e below many same is =
-      ap (λ (zs : List (List X)). zs ++ last ∷ []) (is ∙ ap (λ (zs : List (List X)). slice_set zs at x) same)
-      ∙ set_first xs last at x (omega (arith, below, many))
-      ∙ ap (λ (i : ℕ). slice_set (xs ++ last ∷ []) i x) e
+  pub index_set : (xs ys new rest : List (List X)) (u : UnitRow) (at : ℕ) (x : List X) → at ≡ unit_index u → at < 5 → length xs ≡ 5 → ys ≡ xs → new ≡ slice_set ys at x → new ++ rest ≡ slice_set (xs ++ rest) (unit_index u) x
+  index_set xs ys new rest u at x e below many same is =
+      ap (λ (zs : List (List X)). zs ++ rest) (is ∙ ap (λ (zs : List (List X)). slice_set zs at x) same)
+      ∙ set_first xs rest at x (omega (arith, below, many))
+      ∙ ap (λ (i : ℕ). slice_set (xs ++ rest) i x) e
 
   -- no list has anything
   abbrev pub AreNone : List (List X) → Type 0
@@ -108,16 +111,37 @@ module _ {X : Type 0} where
   two_none : (first second : List X) → first ≡ [] → second ≡ [] → (at : ℕ) → slice_index_or (first ∷ second ∷ []) at [] ≡ []
   two_none first second f s = none_at (first ∷ second ∷ []) (f, (s, tt))
 
-  none_and_last : (xs : List (List X)) (last : List X) → ((at : ℕ) → slice_index_or xs at [] ≡ []) → last ≡ [] → (at : ℕ) → slice_index_or (xs ++ last ∷ []) at [] ≡ []
-  none_and_last [] last none l zero = l
-  none_and_last [] last none l (suc at) = refl
-  none_and_last (rows ∷ xs) last none l zero = none 0
-  none_and_last (rows ∷ xs) last none l (suc at) = none_and_last xs last (λ i. none (suc i)) l at
+  none_and_rest : (xs rest : List (List X)) → ((at : ℕ) → slice_index_or xs at [] ≡ []) → AreNone rest → (at : ℕ) → slice_index_or (xs ++ rest) at [] ≡ []
+  none_and_rest [] rest none others at = none_at rest others at
+  none_and_rest (rows ∷ xs) rest none others zero = none 0
+  none_and_rest (rows ∷ xs) rest none others (suc at) = none_and_rest xs rest (λ i. none (suc i)) others at
 
-  pub one_more : (xs : List (List X)) (last : List X) → length xs ≡ 12 → length (xs ++ last ∷ []) ≡ 13
-  one_more xs last many = length-append xs (last ∷ []) ∙ ap (λ (n : ℕ). n + 1) many
+-- the rows that store nothing beside their keys, of which five are indexes of accounts
+module _ (accounts : List Keys) (transfers : Objects) (expiry : Keys) (many : length accounts ≡ 5) where
+  pub units_many : length (units_by accounts transfers expiry) ≡ 13
+  units_many = length-append accounts _ ∙ ap (λ (n : ℕ). n + 8) many
 
--- whether the mutable table of a row of a kind is a tree
+  pub at_field : (f : Field) → slice_index_or (units_by accounts transfers expiry) (unit_index (unit_of f)) [] ≡ index_of f transfers
+  at_field field.Debit = at_behind accounts _ 0 5 (omega (arith, many))
+  at_field field.Credit = at_behind accounts _ 1 6 (omega (arith, many))
+  at_field field.UserData128 = at_behind accounts _ 2 7 (omega (arith, many))
+  at_field field.UserData64 = at_behind accounts _ 3 8 (omega (arith, many))
+  at_field field.UserData32 = at_behind accounts _ 4 9 (omega (arith, many))
+  at_field field.Ledger = at_behind accounts _ 5 10 (omega (arith, many))
+  at_field field.Code = at_behind accounts _ 6 11 (omega (arith, many))
+
+  pub field_read : (f : Field) (u : UnitRow) → unit_of f ≡ u → slice_index_or (units_by accounts transfers expiry) (unit_index u) [] ≡ index_of f transfers
+  field_read f u is = ap (λ (v : UnitRow). slice_index_or (units_by accounts transfers expiry) (unit_index v) []) (sym is) ∙ at_field f
+
+  pub expiry_read : (u : UnitRow) → u ≡ unit.Expiry → slice_index_or (units_by accounts transfers expiry) (unit_index u) [] ≡ expiry
+  expiry_read u is =
+      ap (λ (v : UnitRow). slice_index_or (units_by accounts transfers expiry) (unit_index v) []) is ∙ at_behind accounts _ 7 12 (omega (arith, many))
+
+  pub expiry_set : (u : UnitRow) (rows : Keys) → u ≡ unit.Expiry → units_by accounts transfers rows ≡ slice_set (units_by accounts transfers expiry) (unit_index u) rows
+  expiry_set u rows is =
+      set_behind accounts _ 7 12 rows (omega (arith, many)) ∙ ap (λ (v : UnitRow). slice_set (units_by accounts transfers expiry) (unit_index v) rows) (sym is)
+
+-- whether the mutable table of a row of a kind takes an entry for any key
 abbrev pub tree_by : Kind → Bool
 tree_by (kind.Stamp stamp.AccountIds) = true
 tree_by kind.Id = true
@@ -151,10 +175,67 @@ tree_is = elim [
   | row.History ↦ refl
 ]
 
--- no index has a tree
-pub index_is_log : (u : UnitRow) → unit_index u < 12 → tree_by (kind.Unit u) ≡ false
-index_is_log unit.Expiry h = absurd (omega (arith, h))
-index_is_log _ h = refl
+-- no index of accounts has a tree
+pub index_is_log : (u : UnitRow) (at : ℕ) → at ≡ unit_index u → at < 5 → tree_by (kind.Unit u) ≡ false
+index_is_log unit.Expiry at e h = absurd (omega (arith, e, h))
+index_is_log _ at e h = refl
+
+-- whether a row of a kind has something of transfers' records
+abbrev of_record_by : Kind → Bool
+of_record_by kind.Transfer = true
+of_record_by (kind.Unit unit.TransferDebit) = true
+of_record_by (kind.Unit unit.TransferCredit) = true
+of_record_by (kind.Unit unit.TransferUserData128) = true
+of_record_by (kind.Unit unit.TransferUserData64) = true
+of_record_by (kind.Unit unit.TransferUserData32) = true
+of_record_by (kind.Unit unit.TransferLedger) = true
+of_record_by (kind.Unit unit.TransferCode) = true
+of_record_by _ = false
+
+of_record_is : (r : Row) → is_of_record r ≡ of_record_by (kind_of r)
+of_record_is = elim [
+  | row.AccountObjects ↦ refl
+  | row.AccountIds ↦ refl
+  | row.AccountUserData128 ↦ refl
+  | row.AccountUserData64 ↦ refl
+  | row.AccountUserData32 ↦ refl
+  | row.AccountLedger ↦ refl
+  | row.AccountCode ↦ refl
+  | row.AccountSums ↦ refl
+  | row.TransferObjects ↦ refl
+  | row.TransferIds ↦ refl
+  | row.TransferDebit ↦ refl
+  | row.TransferCredit ↦ refl
+  | row.TransferUserData128 ↦ refl
+  | row.TransferUserData64 ↦ refl
+  | row.TransferUserData32 ↦ refl
+  | row.TransferLedger ↦ refl
+  | row.TransferCode ↦ refl
+  | row.PendingStatus ↦ refl
+  | row.Expiry ↦ refl
+  | row.ExpiryEntries ↦ refl
+  | row.History ↦ refl
+]
+
+not_single : (r : Row) (k : Kind) → k ≡ kind_of r → of_record_by k ≡ true → IsSingle r → ⊥
+not_single r k of has single = false≢true (sym single ∙ of_record_is r ∙ ap of_record_by (sym of) ∙ has)
+
+-- no such row is a transfer's object, nor an index of transfers
+pub objects_not_single : (r : Row) → kind.Transfer ≡ kind_of r → IsSingle r → ⊥
+objects_not_single r of single = not_single r kind.Transfer of refl single
+
+pub index_not_single : (r : Row) (u : UnitRow) (f : Field) → kind.Unit u ≡ kind_of r → unit_of f ≡ u → IsSingle r → ⊥
+index_not_single r u f of is single = not_single r (kind.Unit u) of (ap (λ (v : UnitRow). of_record_by (kind.Unit v)) (sym is) ∙ has f) single where
+  has : (g : Field) → of_record_by (kind.Unit (unit_of g)) ≡ true
+  has = elim [
+    | field.Debit ↦ refl
+    | field.Credit ↦ refl
+    | field.UserData128 ↦ refl
+    | field.UserData64 ↦ refl
+    | field.UserData32 ↦ refl
+    | field.Ledger ↦ refl
+    | field.Code ↦ refl
+  ]
 
 stamp_within : (u : StampRow) → stamp_index u < 2
 stamp_within stamp.AccountIds = omega arith
@@ -229,14 +310,20 @@ no_entries fresh stamps accounts transfers ids units states sums statuses r = ap
   by_kind kind.Sums = sums
   by_kind kind.Status = statuses
 
-pub none_in_any : {account_ids expiry_entries : List (Key × Option ℕ)} {accounts : List (Key × Option (Stored Account))} {transfers : List (Key × Option (Stored Transfer))} {ids : List (Key × Option IdStamp)}
-    {expiry : List (Key × Option (Unit {0}))} {states : List (Key × Option State)} {sums : List (Key × Option (Stored Sums))} {statuses : List (Key × Option (Stored Status))}
-    → (indexes : List (List (Key × Option (Unit {0})))) → account_ids ≡ [] → expiry_entries ≡ [] → accounts ≡ [] → transfers ≡ [] → ids ≡ []
+no_units : (accounts : List Keys) (transfers : Objects) (expiry : Keys) → ((i : ℕ) → slice_index_or accounts i [] ≡ []) → transfers ≡ [] → expiry ≡ [] → (i : ℕ) → slice_index_or (units_by accounts transfers expiry) i [] ≡ []
+no_units accounts transfers expiry no_accounts no_transfers no_expiry =
+    let none = λ (f : Field). ap (index_of f) no_transfers in
+    none_and_rest accounts _ no_accounts
+    (none field.Debit, (none field.Credit, (none field.UserData128, (none field.UserData64, (none field.UserData32, (none field.Ledger, (none field.Code, (no_expiry, tt))))))))
+
+pub none_in_any : {account_ids expiry_entries : List (Key × Option ℕ)} {accounts : List (Key × Option (Stored Account))} {transfers : Objects} {ids : List (Key × Option IdStamp)}
+    {expiry : Keys} {states : List (Key × Option State)} {sums : List (Key × Option (Stored Sums))} {statuses : List (Key × Option (Stored Status))}
+    → (indexes : List Keys) → account_ids ≡ [] → expiry_entries ≡ [] → accounts ≡ [] → transfers ≡ [] → ids ≡ []
     → ((i : ℕ) → slice_index_or indexes i [] ≡ []) → expiry ≡ [] → states ≡ [] → sums ≡ [] → statuses ≡ []
-    → (r : Row) → entries_by (record { stamps = account_ids ∷ expiry_entries ∷ []; accounts = accounts; transfers = transfers; ids = ids; units = indexes ++ expiry ∷ []; states = states; sums = sums; statuses = statuses }) r ≡ []
+    → (r : Row) → entries_by (record { stamps = account_ids ∷ expiry_entries ∷ []; accounts = accounts; transfers = transfers; ids = ids; units = units_by indexes transfers expiry; states = states; sums = sums; statuses = statuses }) r ≡ []
 none_in_any {account_ids} {expiry_entries} {accounts} {transfers} {ids} {expiry} {states} {sums} {statuses} indexes no_account_ids no_expiry_entries no_accounts no_transfers no_ids no_indexes no_expiry no_states no_sums no_statuses =
-    no_entries (record { stamps = account_ids ∷ expiry_entries ∷ []; accounts = accounts; transfers = transfers; ids = ids; units = indexes ++ expiry ∷ []; states = states; sums = sums; statuses = statuses })
-    (two_none account_ids expiry_entries no_account_ids no_expiry_entries) no_accounts no_transfers no_ids (none_and_last indexes expiry no_indexes no_expiry) no_states no_sums no_statuses
+    no_entries (record { stamps = account_ids ∷ expiry_entries ∷ []; accounts = accounts; transfers = transfers; ids = ids; units = units_by indexes transfers expiry; states = states; sums = sums; statuses = statuses })
+    (two_none account_ids expiry_entries no_account_ids no_expiry_entries) no_accounts no_transfers no_ids (no_units indexes transfers expiry no_indexes no_transfers no_expiry) no_states no_sums no_statuses
 
 -- other entries of a row that stores nothing beside its keys
 pub units_become : (inside : Fresh) (u : UnitRow) (rows : List (Key × Option (Unit {0}))) (units : List (List (Key × Option (Unit {0})))) → units ≡ slice_set inside.units (unit_index u) rows
@@ -265,7 +352,7 @@ module _ (inside view : Fresh) (is : inside ≡ view) (r : Row) (k : Kind) (of :
       ∙ ap (λ (fresh : Fresh). seen_rows (value_by k) (fresh_by fresh k)) is
       ∙ ap (λ (x : Kind). seen_rows (value_by x) (fresh_by view x)) of
 
-  -- a log without rows has none for the row
+  -- a log or a hash table without rows has none for the row
   pub no_log : (result : Bool) → result ≡ (length old == 0) → result ≡ is_nil (entries_by view r)
   no_log result e = e ∙ none_counted (value_by k) old ∙ ap is_nil read
 
@@ -309,26 +396,18 @@ module _ (inside view : Fresh) (is : inside ≡ view) (r : Row) (k : Kind) (of :
         ∙ ap (seen_rows (value_by (kind_of other))) (elsewhere inside k (kind_of other) rows (λ e. apart_by r other apart (e ∙ of)))
         ∙ ap (λ (fresh : Fresh). entries_by fresh other) is
 
-    -- `told` is how what a put tells is seen as what any row may have had
-    pub puts_told : {X : Type 0} (told : X → Option (Option Value)) (key : Key) (entry : Option Value) (result : Result X Refusal)
-        → OnOk result (seen_rows (value_by k) rows ≡ with_row key_cmp key entry (seen_rows (value_by k) old))
-        → OnOk result (IsSome (entry_at key (seen_rows (value_by k) rows)))
-        → IfOk result (λ before. given_back key (told before) (seen_rows (value_by k) rows) ≡ seen_rows (value_by k) old)
-        → IfOk result (λ before. PutsEntry r key entry (told before) (entries_by view) (entries_by new))
-    puts_told told key entry (Ok before) put some restores = record {
-      here = changed_here ∙ put ∙ ap (with_row key_cmp key entry) read;
-      there = subst (λ (all : List (Key × Option Value)). IsSome (entry_at key all)) (sym changed_here) some;
-      restores = ap (given_back key (told before)) changed_here ∙ restores ∙ read;
-      elsewhere = changed_elsewhere;
-    }
-    puts_told told key entry (Err refusal) put some restores = tt
-
     pub puts : (key : Key) (entry : Option Value) (result : Result (Option (Option Value)) Refusal)
         → OnOk result (seen_rows (value_by k) rows ≡ with_row key_cmp key entry (seen_rows (value_by k) old))
         → OnOk result (IsSome (entry_at key (seen_rows (value_by k) rows)))
         → IfOk result (λ before. given_back key before (seen_rows (value_by k) rows) ≡ seen_rows (value_by k) old)
         → IfOk result (λ before. PutsEntry r key entry before (entries_by view) (entries_by new))
-    puts = puts_told (λ before. before)
+    puts key entry (Ok before) put some restores = record {
+      here = changed_here ∙ put ∙ ap (with_row key_cmp key entry) read;
+      there = subst (λ (all : List (Key × Option Value)). IsSome (entry_at key all)) (sym changed_here) some;
+      restores = ap (given_back key before) changed_here ∙ restores ∙ read;
+      elsewhere = changed_elsewhere;
+    }
+    puts key entry (Err refusal) put some restores = tt
 
     pub gives_back : (key : Key) (before : Option (Option Value)) → seen_rows (value_by k) rows ≡ given_back key before (seen_rows (value_by k) old)
         → GivesBack r key before (entries_by view) (entries_by new)

@@ -1,1 +1,5 @@
+pub mod Crossing
 pub mod Fresh
+pub mod Hashing
+pub mod Indexes
+pub mod Records

@@ -32,7 +32,7 @@ pub(crate) fn entry_in<V: Held, M: MutableTable<V, A>, A: Allocator + Clone>(
 /// Gives a key a stored entry, and tells the one that it had.
 ///
 /// The only refusal is `NoMemory`, and it changes nothing.
-pub(crate) fn put_stored<V: Held, M: MutableTable<V, A>, A: Allocator + Clone>(
+fn put_stored<V: Held, M: MutableTable<V, A>, A: Allocator + Clone>(
     table: &mut M,
     key: Key,
     stored: Option<V>,

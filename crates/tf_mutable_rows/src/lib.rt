@@ -1,9 +1,14 @@
-//! The mutable tables of the 21 rows: a tree for each row that is looked up or changed by key before it is sealed, a log for each
-//! other. They are made where a store is opened; what stores, seals and undoes knows them by what [`tf_rows::MutableRows`] says.
+//! The mutable tables of the 21 rows. A row that is looked up or changed before it is sealed lies in a hash table where the ledger
+//! itself gives its keys, timestamps, which nobody can make collide, and else in a tree. Each other has a log, but for the indexes
+//! of transfers, which are read off the log of transfers. They are made where a store is opened; what stores, seals and undoes knows
+//! them by what [`tf_rows::MutableRows`] says.
 #![tactic(auto)]
 
 mod entry;
+mod hashed;
 mod held;
 mod mutable_tables;
+mod places;
+mod transfers;
 
 pub use mutable_tables::MutableTables;

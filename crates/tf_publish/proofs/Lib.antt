@@ -1,4 +1,5 @@
 pub mod Sealed
+pub mod Records
 pub mod Measures
 pub mod Bounds
 pub mod InFront

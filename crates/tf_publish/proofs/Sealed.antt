@@ -24,7 +24,7 @@ found_sealed fresh view r key none =
     ∙ ap (λ (x : Option (Option Value)). option_flatten (first_some x (entry_of key (sealed_in view r)))) none
 
 -- changes of mutable tables are changes of rows
-abbrev with_fresh : View → Row → List (Key × Option Value) → Part
+abbrev pub with_fresh : View → Row → List (Key × Option Value) → Part
 with_fresh view r rows = record { fresh = rows; below = sealed_in view r }
 
 pub put_in_front : (view : View) (r : Row) (key : Key) (entry : Option Value) (before : Option (Option Value)) (old new : Entries) → PutsEntry r key entry before old new → IsPut r key entry before (parts_of old view) (parts_of new view)

@@ -8,9 +8,9 @@ ghost use Rattle.tf_rows.specs.Parts.{parts_of};
 use crate::Published;
 use std::alloc::Allocator;
 use tf_manifest::{Registries, Row, Value};
-use tf_records::Refusal;
+use tf_records::{Refusal, Transfer};
 use tf_registry::Naming;
-use tf_rows::{AllRows, Before, EmptyRows, MutableRows, RowSet};
+use tf_rows::{AllRows, Before, EmptyRows, MutableRows, PutTransfer, RowSet};
 use tf_table::Key;
 
 /// Rows: what a row's mutable table has at a key comes before what its sealed tables have there.
@@ -63,12 +63,16 @@ impl<F: MutableRows + Drop, A: Allocator, N: Naming> RowSet for Rows<F, A, N> {
         self.fresh.put(row, key, entry)
     }
 
-    fn put_key(&mut self, row: Row, key: Key) -> Result<Option<Option<()>>, Refusal> {
-        self.fresh.put_key(row, key)
-    }
-
     fn take_back(&mut self, row: Row, key: &Key, before: Before) {
         self.fresh.take_back(row, key, before);
+    }
+
+    fn put_transfer(&mut self, transfer: &Transfer) -> Result<(), Refusal> {
+        self.fresh.put_transfer(transfer)
+    }
+
+    fn take_transfer(&mut self, transfer: &PutTransfer) {
+        self.fresh.take_transfer(transfer);
     }
 }
 

@@ -35,7 +35,7 @@ changed-own : (c : Change) (parts : Parts) → changed c parts c.row ≡ with_en
 changed-own c parts =
     ap (λ (b : Bool). cond b (with_entry c.key c.value (parts c.row)) (parts c.row)) (eq-eqb (place_of c.row) (place_of c.row) refl)
 
-changed-other : (c : Change) (parts : Parts) (s : Row) → (place_of s == place_of c.row) ≡ false → changed c parts s ≡ parts s
+pub changed-other : (c : Change) (parts : Parts) (s : Row) → (place_of s == place_of c.row) ≡ false → changed c parts s ≡ parts s
 changed-other c parts s other = ap (λ (b : Bool). cond b (with_entry c.key c.value (parts c.row)) (parts s)) other
 
 all_changed-other : (r : Row) (changes : List Edit) (parts : Parts) (s : Row) → (place_of s == place_of r) ≡ false → all_changed (map (change_of r) changes) parts s ≡ parts s

@@ -16,11 +16,14 @@ pub mod Parts
 pub mod Stepping
 pub mod Touched
 pub mod Made
+pub mod Recorded
 pub mod Next
 pub mod InRange
 pub mod Listed
+pub mod Single
 pub mod EditsOfRows
 pub mod CanChange
+pub mod Reordered
 pub mod Walks
 pub mod DueRows
 pub mod Unvalued

@@ -1,5 +1,5 @@
 -- A transfer's changes, part by part, some of which may be absent.
-use Rattle.std.proofs.Common.{◌≡◌, List, [], ◌++◌, map, Option, Some, None, refl, sym, ◌∙◌, ap, append-nil, append_assoc}
+use Rattle.std.proofs.Common.{◌≡◌, ℕ, List, [], ◌∷◌, ◌++◌, map, Option, Some, None, refl, sym, ◌∙◌, ap, append-nil, append_assoc}
 use Rattle.std.specs.Option.{option_map, option_map_or}
 use Rattle.std.proofs.lemmas.List.{map-append}
 use Rattle.tf_records.specs.declared.transfer.Transfer.{Transfer}
@@ -9,13 +9,18 @@ use Rattle.tf_journal.specs.declared.side.Side.TheVariants.{Debit, Credit}
 use Rattle.tf_manifest.specs.declared.row.Row.{Row}
 use Rattle.tf_manifest.specs.declared.row.Row.TheVariants as row
 use Rattle.tf_manifest.specs.declared.value.State.{State}
+use Rattle.tf_manifest.specs.declared.value.Value.TheVariants as value
+use Rattle.tf_manifest.specs.Rows.{key_of}
 use Rattle.tf_rows.specs.declared.change.Change.{Change}
 use Rattle.tf_rows.specs.declared.found.Found.{Found}
 use Rattle.tf_rows.specs.declared.found.Party.{Party}
 use Rattle.tf_rows.specs.Changes.{listed}
-use Rattle.tf_rows.specs.Made.{index_changes}
-use Rattle.tf_rows.specs.Edits.{Edit, history_edit, party_after, state_after, state_edit, transfer_edits}
+use Rattle.tf_rows.specs.Edits.{Edit, history_edit, party_after, put, state_after, state_edit, transfer_edits}
 use Rattle.tf_rows.specs.Next.{change_of, changes_by}
+
+-- one that is there
+pub one_listed : (change : Option Change) (one : Change) → change ≡ Some one → listed change ≡ one ∷ []
+one_listed change one is = ap listed is
 
 -- the changes of a row, by two changes that may be absent
 two_listed : (r : Row) (xs ys : List Edit) (a b : Option Change)
@@ -60,6 +65,28 @@ history_listed t change before after a is has =
     ∙ ap (λ (o : Option Party). map (change_of row.History) (option_map_or (history_edit t (λ state. state)) o [])) is
     ∙ ap (map (change_of row.History)) (history_of_after t change before)
 
+-- what a transfer has of its own: its object, its id and its seven fields
+module _ (t : Transfer) where
+  abbrev pub object_change : Change
+  object_change = change_of row.TransferObjects (put (key_of 0 t.timestamp) (value.Transfer t))
+
+  abbrev pub id_change : Change
+  id_change = change_of row.TransferIds (put (key_of t.id 0) (value.Stamp t.timestamp))
+
+  abbrev field_change : Row → ℕ → Change
+  field_change r field = change_of r (put (key_of field t.timestamp) value.Unit)
+
+  abbrev pub field_changes : List Change
+  field_changes =
+      field_change row.TransferDebit t.debit_account_id
+      ∷ field_change row.TransferCredit t.credit_account_id
+      ∷ field_change row.TransferUserData128 t.user_data_128
+      ∷ field_change row.TransferUserData64 t.user_data_64
+      ∷ field_change row.TransferUserData32 t.user_data_32
+      ∷ field_change row.TransferLedger t.ledger
+      ∷ field_change row.TransferCode t.code
+      ∷ []
+
 -- a transfer's changes: its parts one after another
 module _ (found : Found) (t : Transfer) where
   abbrev change_on : Side → State → State
@@ -68,13 +95,10 @@ module _ (found : Found) (t : Transfer) where
   abbrev of_row : Row → List Change
   of_row r = map (change_of r) (transfer_edits found t r)
 
-  -- the states of its accounts, its record with its id, the status and the expiry of the pending transfer that it is or settles,
-  -- and the history of its accounts
+  -- the states of its accounts, what it has of its own, the status and the expiry of the pending transfer that it is or settles, and
+  -- the history of its accounts
   abbrev pub state_changes : List Change
   state_changes = of_row row.AccountSums
-
-  abbrev pub record_changes : List Change
-  record_changes = of_row row.TransferObjects ++ of_row row.TransferIds
 
   abbrev pub pending_changes : List Change
   pending_changes = of_row row.PendingStatus ++ of_row row.Expiry
@@ -82,9 +106,9 @@ module _ (found : Found) (t : Transfer) where
   abbrev pub history_changes : List Change
   history_changes = of_row row.History
 
-  pub in_parts : changes_by found (entry.Transfer t) ≡ state_changes ++ (record_changes ++ (index_changes t ++ (pending_changes ++ history_changes)))
+  pub in_parts : changes_by found (entry.Transfer t) ≡ state_changes ++ (object_change t ∷ id_change t ∷ (field_changes t ++ (pending_changes ++ history_changes)))
   in_parts =
-      ap (λ (cs : List Change). state_changes ++ (record_changes ++ (index_changes t ++ cs)))
+      ap (λ (cs : List Change). state_changes ++ (object_change t ∷ id_change t ∷ (field_changes t ++ cs)))
       (ap (λ (cs : List Change). of_row row.PendingStatus ++ (of_row row.Expiry ++ cs)) (append-nil history_changes)
       ∙ sym (append_assoc (of_row row.PendingStatus) (of_row row.Expiry) history_changes))
 

@@ -1,11 +1,13 @@
 -- Changes that are made one after another, up to one that is refused.
 use Rattle.std.proofs.Common.{◌≡◌, List, [], ◌∷◌, ◌++◌, Bool, Option, Result, Ok, Err, IfSome, IsTrue, OnOk, refl, sym, ◌∙◌, ap, subst}
 use Rattle.tf_records.specs.declared.refusal.Refusal.{Refusal}
+use Rattle.tf_table.specs.declared.key.Key.{Key}
 use Rattle.tf_manifest.specs.declared.row.Row.{Row}
 use Rattle.tf_manifest.specs.declared.value.Value.{Value}
 use Rattle.tf_rows.specs.declared.change.Change.{Change}
 use Rattle.tf_rows.specs.declared.change.Step.{Step}
-use Rattle.tf_rows.specs.Changes.{CanChangeAll, all_changed, changed}
+use Rattle.tf_rows.specs.declared.change.Step.TheVariants as step
+use Rattle.tf_rows.specs.Changes.{CanChangeAll, IsSingle, all_changed, changed}
 use Rattle.tf_rows.specs.Made.{AreMade}
 use Rattle.tf_rows.specs.Packed.{AreAdded}
 use Rattle.tf_rows.specs.Parts.{IsPut, Parts}
@@ -20,13 +22,13 @@ module _ (has : Row → Bool) (fits : Row → Value → Bool) (takes_any : Row �
   Added old new before after = AreAdded has fits takes_any old new before after
 
   -- a change whose step was put behind others
-  pub noted : {X E : Type 0} (result : Result X E) (step : Step) (value : Option Value) (old mid new : Parts) (steps after : List Step)
-      → IsTrue (has step.row) → IfSome step.before (λ entry. IfSome entry (λ v. IsTrue (fits step.row v))) → IsPut step.row step.key value step.before old mid
-      → OnOk result ((new ≡ mid) × (after ≡ steps ++ step ∷ [])) → OnOk result (Added steps after old new)
-  noted (Ok x) step value old mid new steps after held kind put ok =
+  pub noted : {X E : Type 0} (result : Result X E) (r : Row) (key : Key) (before : Option (Option Value)) (value : Option Value) (old mid new : Parts) (steps after : List Step)
+      → IsSingle r → IsTrue (has r) → IfSome before (λ entry. IfSome entry (λ v. IsTrue (fits r v))) → IsPut r key value before old mid
+      → OnOk result ((new ≡ mid) × (after ≡ steps ++ step.Key r key before ∷ [])) → OnOk result (Added steps after old new)
+  noted (Ok x) r key before value old mid new steps after single held kind put ok =
       subst (Added steps after old) (sym ok.0)
-      (one_added has fits takes_any steps after step old mid ok.1 (record { held = held; kind = kind; there = put.there }) (put_stepped step value old mid put))
-  noted (Err e) step value old mid new steps after held kind put ok = tt
+      (one_added has fits takes_any steps after (step.Key r key before) old mid ok.1 (record { single = single; held = held; kind = kind; there = put.there }) (put_stepped r key before value old mid put))
+  noted (Err e) r key before value old mid new steps after single held kind put ok = tt
 
   -- of changes of rows the first ones are made, and these are left
   module _ (changes : List Change) (old : List Step) (before : Parts) where

@@ -4,13 +4,14 @@ use Rattle.std.specs.Prelude.{◌==◌}
 use Rattle.std.proofs.Math.ListN.{get_or}
 use Rattle.std.proofs.Math.Path.{fun_ext}
 use Rattle.std.proofs.lemmas.Bool.{both_ways, eq-eqb, eqb-true}
+use Rattle.tf_table.specs.declared.key.Key.{Key}
 use Rattle.tf_manifest.specs.declared.row.Row.{Row}
 use Rattle.tf_manifest.specs.declared.row.Row.TheVariants as row
 use Rattle.tf_manifest.specs.declared.value.Value.{Value}
 use Rattle.tf_manifest.specs.RowNames.{rows_in_order}
 use Rattle.tf_rows.specs.declared.change.Change.{Change}
 use Rattle.tf_rows.specs.declared.change.Step.{Step}
-use Rattle.tf_rows.specs.Changes.{CanStep, CanStepAll, all_stepped, changed, stepped, with_part}
+use Rattle.tf_rows.specs.Changes.{CanStep, CanStepAll, all_stepped, changed, key_back, stepped, with_part}
 use Rattle.tf_rows.specs.Parts.{IsPut, IsTakenBack, Part, Parts, place_of, with_back, with_entry}
 
 -- the row at a place
@@ -58,11 +59,11 @@ differ r part old new here elsewhere = fun_ext each where
 pub put_changed : (change : Change) (before : Option (Option Value)) (old new : Parts) → IsPut change.row change.key change.value before old new → new ≡ changed change old
 put_changed change before old new put = differ change.row (with_entry change.key change.value (old change.row)) old new put.here put.elsewhere
 
-pub put_stepped : (step : Step) (entry : Option Value) (old new : Parts) → IsPut step.row step.key entry step.before old new → stepped step new ≡ old
-put_stepped step entry old new put = sym (differ step.row (with_back step.key step.before (new step.row)) new old (sym put.restores) (λ other n. sym (put.elsewhere other n)))
+pub put_stepped : (r : Row) (key : Key) (before : Option (Option Value)) (entry : Option Value) (old new : Parts) → IsPut r key entry before old new → key_back r key before new ≡ old
+put_stepped r key before entry old new put = sym (differ r (with_back key before (new r)) new old (sym put.restores) (λ other n. sym (put.elsewhere other n)))
 
-pub taken_stepped : (step : Step) (old new : Parts) → IsTakenBack step.row step.key step.before old new → new ≡ stepped step old
-taken_stepped step old new taken = differ step.row (with_back step.key step.before (old step.row)) old new taken.here taken.elsewhere
+pub taken_stepped : (r : Row) (key : Key) (before : Option (Option Value)) (old new : Parts) → IsTakenBack r key before old new → new ≡ key_back r key before old
+taken_stepped r key before old new taken = differ r (with_back key before (old r)) old new taken.here taken.elsewhere
 
 -- the last step is taken first
 pub all_stepped-last : (steps : List Step) (step : Step) (parts : Parts) → all_stepped (steps ++ step ∷ []) parts ≡ all_stepped steps (stepped step parts)

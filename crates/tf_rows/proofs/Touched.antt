@@ -1,20 +1,35 @@
 -- Steps in little room: one more, one less, and steps put behind others.
-use Rattle.std.proofs.Common.{◌≡◌, ◌+◌, ◌≤◌, ℕ, suc, List, [], ◌∷◌, ◌++◌, length, drop, Option, Some, None, Bool, true, false, not, refl, sym, ◌∙◌, ap, subst, arith, append-nil, append_assoc}
+use Rattle.std.proofs.Common.{◌≡◌, ◌+◌, ◌≤◌, ℕ, suc, List, [], ◌∷◌, ◌++◌, length, drop, Option, Some, None, Bool, true, false, refl, sym, ◌∙◌, ap, subst, arith, append-nil, append_assoc}
 use Rattle.std.proofs.lemmas.List.{drop-append-le, length-append}
 use Rattle.std.specs.Prelude.{if◌then◌else◌, is_some}
 use Rattle.std.specs.Option.{option_to_list}
+use Rattle.tf_records.specs.declared.transfer.Transfer.{Transfer}
 use Rattle.tf_manifest.specs.declared.row.Row.{Row}
 use Rattle.tf_manifest.specs.declared.value.Value.{Value}
 use Rattle.tf_rows.specs.declared.change.Step.{Step}
+use Rattle.tf_rows.specs.declared.change.Step.TheVariants as step
 use Rattle.tf_rows.specs.declared.steps.Touched.{Touched}
+use Rattle.tf_rows.specs.declared.steps.Touched.TheVariants as touched
 use Rattle.tf_rows.specs.Changes.{CanStep, CanStepAll, all_stepped, stepped}
 use Rattle.tf_rows.specs.Parts.{Parts}
-use Rattle.tf_rows.specs.Packed.{AreAdded, before_in, had_count, left_after, step_of, steps_of}
+use Rattle.tf_rows.specs.Packed.{AreAdded, before_in, had_count, had_of, left_after, step_of, steps_of}
 
 before_more : (had : Bool) (entries new : List (Option Value)) (n : ℕ) → (if had then 1 else 0) + n ≡ length entries → before_in had (entries ++ new) ≡ before_in had entries
 before_more false entries new n count = refl
 before_more true [] new n count = absurd (omega (arith, count))
 before_more true (entry ∷ entries) new n count = refl
+
+-- what a key had, where nothing else is kept
+pub before_kept : (had : Bool) (before : Option (Option Value)) → had ≡ is_some before → before_in had (option_to_list before) ≡ before
+before_kept false None is = refl
+before_kept true (Some entry) is = refl
+before_kept false (Some entry) is = cc
+before_kept true None is = cc
+
+step_more : (change : Touched) (entries new : List (Option Value)) (n : ℕ) → (if had_of change then 1 else 0) + n ≡ length entries → step_of change (entries ++ new) ≡ step_of change entries
+step_more (touched.Key had r timestamp value) entries new n count =
+    ap (λ (b : Option (Option Value)). step.Key r (record { value = value; timestamp = timestamp }) b) (before_more had entries new n count)
+step_more (touched.Transfer t) entries new n count = refl
 
 left_more : (had : Bool) (entries new : List (Option Value)) (n : ℕ) → (if had then 1 else 0) + n ≡ length entries → left_after had (entries ++ new) ≡ left_after had entries ++ new
 left_more false entries new n count = refl
@@ -26,18 +41,18 @@ left_count false entries n count = omega (arith, count)
 left_count true [] n count = absurd (omega (arith, count))
 left_count true (entry ∷ entries) n count = omega (arith, count)
 
--- the last key's step, with the entries that are left for it
-pub steps_of-last : (keys : List Touched) (entries new : List (Option Value)) (last : Touched) → had_count keys ≡ length entries → steps_of (keys ++ last ∷ []) (entries ++ new) ≡ steps_of keys entries ++ step_of last new ∷ []
+-- the last step, with the entries that are left for it
+pub steps_of-last : (changes : List Touched) (entries new : List (Option Value)) (last : Touched) → had_count changes ≡ length entries → steps_of (changes ++ last ∷ []) (entries ++ new) ≡ steps_of changes entries ++ step_of last new ∷ []
 steps_of-last [] [] new last count = refl
 steps_of-last [] (entry ∷ entries) new last count = absurd (omega (arith, count))
-steps_of-last (key ∷ keys) entries new last count =
-    ap (λ (b : Option (Option Value)). record { row = key.row; key = record { value = key.value; timestamp = key.timestamp }; before = b } ∷ steps_of (keys ++ last ∷ []) (left_after key.had (entries ++ new))) (before_more key.had entries new (had_count keys) count)
-    ∙ ap (λ (l : List (Option Value)). step_of key entries ∷ steps_of (keys ++ last ∷ []) l) (left_more key.had entries new (had_count keys) count)
-    ∙ ap (λ (l : List Step). step_of key entries ∷ l) (steps_of-last keys (left_after key.had entries) new last (left_count key.had entries (had_count keys) count))
+steps_of-last (change ∷ changes) entries new last count =
+    ap (λ (s : Step). s ∷ steps_of (changes ++ last ∷ []) (left_after (had_of change) (entries ++ new))) (step_more change entries new (had_count changes) count)
+    ∙ ap (λ (l : List (Option Value)). step_of change entries ∷ steps_of (changes ++ last ∷ []) l) (left_more (had_of change) entries new (had_count changes) count)
+    ∙ ap (λ (l : List Step). step_of change entries ∷ l) (steps_of-last changes (left_after (had_of change) entries) new last (left_count (had_of change) entries (had_count changes) count))
 
-pub had_count-last : (keys : List Touched) (last : Touched) → had_count (keys ++ last ∷ []) ≡ had_count keys + (if last.had then 1 else 0)
+pub had_count-last : (changes : List Touched) (last : Touched) → had_count (changes ++ last ∷ []) ≡ had_count changes + (if had_of last then 1 else 0)
 had_count-last [] last = omega arith
-had_count-last (key ∷ keys) last = let rest = had_count-last keys last in omega (arith, rest)
+had_count-last (change ∷ changes) last = let rest = had_count-last changes last in omega (arith, rest)
 
 if_one : (had : Bool) (before : Option (Option Value)) → had ≡ is_some before → (if had then 1 else 0) ≡ length (option_to_list before)
 if_one false None is = refl
@@ -53,37 +68,37 @@ no_one : (had : Bool) → had ≡ false → ◌≡◌ {A = ℕ} (if had then 1 e
 no_one false is = refl
 no_one true is = cc
 
--- one key more keeps the count
-pub pushed_count : (keys : List Touched) (entries : List (Option Value)) (last : Touched) (before : Option (Option Value)) → had_count keys ≡ length entries → last.had ≡ is_some before → had_count (keys ++ last ∷ []) ≡ length (entries ++ option_to_list before)
-pushed_count keys entries last before count is =
-    let keys_more = had_count-last keys last in
-    let one = if_one last.had before is in
+-- one change more keeps the count
+pub pushed_count : (changes : List Touched) (entries : List (Option Value)) (last : Touched) (before : Option (Option Value)) → had_count changes ≡ length entries → had_of last ≡ is_some before → had_count (changes ++ last ∷ []) ≡ length (entries ++ option_to_list before)
+pushed_count changes entries last before count is =
+    let changes_more = had_count-last changes last in
+    let one = if_one (had_of last) before is in
     let more = length-append entries (option_to_list before) in
-    omega (arith, keys_more, one, more, count)
+    omega (arith, changes_more, one, more, count)
 
--- and one key less
-pub popped_count : (keys : List Touched) (entries : List (Option Value)) (last : Touched) → had_count (keys ++ last ∷ []) ≡ length entries → last.had ≡ false → had_count keys ≡ length entries
-popped_count keys entries last count is =
-    let more = had_count-last keys last in
-    let none = no_one last.had is in
+-- and one change less
+pub popped_count : (changes : List Touched) (entries : List (Option Value)) (last : Touched) → had_count (changes ++ last ∷ []) ≡ length entries → had_of last ≡ false → had_count changes ≡ length entries
+popped_count changes entries last count is =
+    let more = had_count-last changes last in
+    let none = no_one (had_of last) is in
     omega (arith, more, none, count)
 
-pub popped_entry_count : (keys : List Touched) (entries : List (Option Value)) (last : Touched) (entry : Option Value) → had_count (keys ++ last ∷ []) ≡ length (entries ++ entry ∷ []) → last.had ≡ true → had_count keys ≡ length entries
-popped_entry_count keys entries last entry count is =
-    let more = had_count-last keys last in
-    let one = one_had last.had is in
+pub popped_entry_count : (changes : List Touched) (entries : List (Option Value)) (last : Touched) (entry : Option Value) → had_count (changes ++ last ∷ []) ≡ length (entries ++ entry ∷ []) → had_of last ≡ true → had_count changes ≡ length entries
+popped_entry_count changes entries last entry count is =
+    let more = had_count-last changes last in
+    let one = one_had (had_of last) is in
     let long = length-append entries (entry ∷ []) in
     omega (arith, more, one, long, count)
 
-pub some_had : (keys : List Touched) (last : Touched) → last.had ≡ true → had_count (keys ++ last ∷ []) ≡ 0 → ⊥
-some_had keys last is none =
-    let more = had_count-last keys last in
-    let one = one_had last.had is in
+pub some_had : (changes : List Touched) (last : Touched) → had_of last ≡ true → had_count (changes ++ last ∷ []) ≡ 0 → ⊥
+some_had changes last is none =
+    let more = had_count-last changes last in
+    let one = one_had (had_of last) is in
     omega (arith, more, one, none)
 
-pub steps_length : (keys : List Touched) (entries : List (Option Value)) → length (steps_of keys entries) ≡ length keys
+pub steps_length : (changes : List Touched) (entries : List (Option Value)) → length (steps_of changes entries) ≡ length changes
 steps_length [] entries = refl
-steps_length (key ∷ keys) entries = ap suc (steps_length keys (left_after key.had entries))
+steps_length (change ∷ changes) entries = ap suc (steps_length changes (left_after (had_of change) entries))
 
 pub all_stepped-append : (steps others : List Step) (parts : Parts) → all_stepped (steps ++ others) parts ≡ all_stepped steps (all_stepped others parts)
 all_stepped-append [] others parts = refl
@@ -111,41 +126,41 @@ module _ (has : Row → Bool) (fits : Row → Value → Bool) (takes_any : Row �
   }
 
 -- the steps after one more, and before one less
-pub pushed_steps : (keys : List Touched) (entries : List (Option Value)) (last : Touched) (step : Step) (before : Option (Option Value)) → had_count keys ≡ length entries → step.before ≡ before → step_of last (option_to_list step.before) ≡ step → steps_of (keys ++ last ∷ []) (entries ++ option_to_list before) ≡ steps_of keys entries ++ step ∷ []
-pushed_steps keys entries last step before count has is =
-    steps_of-last keys entries (option_to_list before) last count
-    ∙ ap (λ (b : Option (Option Value)). steps_of keys entries ++ step_of last (option_to_list b) ∷ []) (sym has)
-    ∙ ap (λ (s : Step). steps_of keys entries ++ s ∷ []) is
+pub pushed_steps : (changes : List Touched) (entries : List (Option Value)) (last : Touched) (step : Step) (had before : Option (Option Value)) → had_count changes ≡ length entries → had ≡ before → step_of last (option_to_list had) ≡ step → steps_of (changes ++ last ∷ []) (entries ++ option_to_list before) ≡ steps_of changes entries ++ step ∷ []
+pushed_steps changes entries last step had before count same is =
+    steps_of-last changes entries (option_to_list before) last count
+    ∙ ap (λ (b : Option (Option Value)). steps_of changes entries ++ step_of last (option_to_list b) ∷ []) (sym same)
+    ∙ ap (λ (s : Step). steps_of changes entries ++ s ∷ []) is
 
-pub popped_steps : (all keys : List Touched) (entries : List (Option Value)) (last : Touched) (step : Step) → all ≡ keys ++ last ∷ [] → had_count all ≡ length entries → last.had ≡ false
-    → step ≡ record { row = last.row; key = record { value = last.value; timestamp = last.timestamp }; before = None } → steps_of all entries ≡ steps_of keys entries ++ step ∷ []
-popped_steps all keys entries last step is count had made =
-    ap (λ (ks : List Touched). steps_of ks entries) is
-    ∙ ap (λ (es : List (Option Value)). steps_of (keys ++ last ∷ []) es) (sym (append-nil entries))
-    ∙ steps_of-last keys entries [] last (popped_count keys entries last (ap had_count (sym is) ∙ count) had)
-    ∙ ap (λ (b : Bool). steps_of keys entries ++ record { row = last.row; key = record { value = last.value; timestamp = last.timestamp }; before = before_in b [] } ∷ []) had
-    ∙ ap (λ (s : Step). steps_of keys entries ++ s ∷ []) (sym made)
+pub popped_steps : (all changes : List Touched) (entries : List (Option Value)) (last : Touched) (step : Step) → all ≡ changes ++ last ∷ [] → had_count all ≡ length entries → had_of last ≡ false
+    → step ≡ step_of last [] → steps_of all entries ≡ steps_of changes entries ++ step ∷ []
+popped_steps all changes entries last step is count had made =
+    ap (λ (cs : List Touched). steps_of cs entries) is
+    ∙ ap (λ (es : List (Option Value)). steps_of (changes ++ last ∷ []) es) (sym (append-nil entries))
+    ∙ steps_of-last changes entries [] last (popped_count changes entries last (ap had_count (sym is) ∙ count) had)
+    ∙ ap (λ (s : Step). steps_of changes entries ++ s ∷ []) (sym made)
 
-pub popped_entry_steps : (all keys : List Touched) (whole entries : List (Option Value)) (last : Touched) (entry : Option Value) (step : Step) → all ≡ keys ++ last ∷ [] → whole ≡ entries ++ entry ∷ [] → had_count all ≡ length whole → last.had ≡ true
-    → step ≡ record { row = last.row; key = record { value = last.value; timestamp = last.timestamp }; before = Some entry } → steps_of all whole ≡ steps_of keys entries ++ step ∷ []
-popped_entry_steps all keys whole entries last entry step is split count had made =
-    ap (λ (ks : List Touched). steps_of ks whole) is
-    ∙ ap (steps_of (keys ++ last ∷ [])) split
-    ∙ steps_of-last keys entries (entry ∷ []) last (popped_entry_count keys entries last entry (ap had_count (sym is) ∙ count ∙ ap (λ (es : List (Option Value)). length es) split) had)
-    ∙ ap (λ (b : Bool). steps_of keys entries ++ record { row = last.row; key = record { value = last.value; timestamp = last.timestamp }; before = before_in b (entry ∷ []) } ∷ []) had
-    ∙ ap (λ (s : Step). steps_of keys entries ++ s ∷ []) (sym made)
+pub popped_entry_steps : (all changes : List Touched) (whole entries : List (Option Value)) (last : Touched) (entry : Option Value) (step : Step) → all ≡ changes ++ last ∷ [] → whole ≡ entries ++ entry ∷ [] → had_count all ≡ length whole → had_of last ≡ true
+    → step ≡ step_of last (entry ∷ []) → steps_of all whole ≡ steps_of changes entries ++ step ∷ []
+popped_entry_steps all changes whole entries last entry step is split count had made =
+    ap (λ (cs : List Touched). steps_of cs whole) is
+    ∙ ap (steps_of (changes ++ last ∷ [])) split
+    ∙ steps_of-last changes entries (entry ∷ []) last (popped_entry_count changes entries last entry (ap had_count (sym is) ∙ count ∙ ap (λ (es : List (Option Value)). length es) split) had)
+    ∙ ap (λ (s : Step). steps_of changes entries ++ s ∷ []) (sym made)
 
-pub is_not : (b : Bool) → not b ≡ true → b ≡ false
-is_not false is = refl
-is_not true is = cc
+-- a transfer's record has no entry: with one more the entries stay
+pub recorded_count : (changes : List Touched) (entries : List (Option Value)) (t : Transfer) → had_count changes ≡ length entries → had_count (changes ++ touched.Transfer t ∷ []) ≡ length entries
+recorded_count changes entries t count = let more = had_count-last changes (touched.Transfer t) in omega (arith, more, count)
 
-pub is_so : (b : Bool) → not b ≡ false → b ≡ true
-is_so true is = refl
-is_so false is = cc
+pub recorded_steps : (changes : List Touched) (entries : List (Option Value)) (made t : Transfer) → had_count changes ≡ length entries → made ≡ t → steps_of (changes ++ touched.Transfer made ∷ []) entries ≡ steps_of changes entries ++ step.Transfer t ∷ []
+recorded_steps changes entries made t count is =
+    ap (λ (es : List (Option Value)). steps_of (changes ++ touched.Transfer made ∷ []) es) (sym (append-nil entries))
+    ∙ steps_of-last changes entries [] (touched.Transfer made) count
+    ∙ ap (λ (other : Transfer). steps_of changes entries ++ step.Transfer other ∷ []) is
 
 -- a key that had an entry has it still
-pub no_entry : (all keys : List Touched) (entries : List (Option Value)) (last : Touched) → all ≡ keys ++ last ∷ [] → had_count all ≡ length entries → last.had ≡ true → length entries ≡ 0 → ⊥
-no_entry all keys entries last is count had none = some_had keys last had (ap had_count (sym is) ∙ count ∙ none)
+pub no_entry : (all changes : List Touched) (entries : List (Option Value)) (last : Touched) → all ≡ changes ++ last ∷ [] → had_count all ≡ length entries → had_of last ≡ true → length entries ≡ 0 → ⊥
+no_entry all changes entries last is count had none = some_had changes last had (ap had_count (sym is) ∙ count ∙ none)
 
 -- the steps behind the first n, the last of them apart
 pub dropped : (all rest : List Step) (step : Step) (n : ℕ) → all ≡ rest ++ step ∷ [] → n ≤ length rest → drop n all ≡ drop n rest ++ step ∷ []

@@ -4,6 +4,7 @@ pub mod Counts
 pub mod LookUps
 pub mod Held
 pub mod Parts
+pub mod Record
 pub mod Changes
 pub mod Packed
 pub mod Next

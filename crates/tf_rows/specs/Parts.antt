@@ -9,7 +9,6 @@ use Rattle.tf_mutable.specs.Mutable.{given_back}
 use Rattle.tf_manifest.specs.declared.row.Row.{Row}
 use Rattle.tf_manifest.specs.declared.row.Row.TheVariants as row
 use Rattle.tf_manifest.specs.declared.value.Value.{Value}
-use Rattle.tf_manifest.specs.declared.value.Value.TheVariants as value
 use Rattle.tf_manifest.specs.Kinds.{kind_of}
 use Rattle.tf_registry.specs.Row.{lists_of, value_in}
 use Rattle.tf_manifest.specs.View.{View, tables_by, value_by}
@@ -26,10 +25,6 @@ seen_row seen r = (r.0, option_map seen r.1)
 -- entries as those of a row
 abbrev pub seen_rows : {V : Type 0} → (V → Value) → List (Key × Option V) → List (Key × Option Value)
 seen_rows seen rows = map (seen_row seen) rows
-
--- what a key had in a row that stores nothing beside its keys, as that of any row
-abbrev pub seen_before : Option (Option (Unit {0})) → Option (Option Value)
-seen_before before = option_map (option_map (λ nothing. value.Unit)) before
 
 -- no entries
 abbrev pub no_part : Part

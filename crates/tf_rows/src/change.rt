@@ -1,15 +1,16 @@
 //! Changes of rows, and the steps that take them back.
-ghost use Rattle.std.specs.Prelude.{◌≡◌, ◌≤◌, ◌++◌, ◌∷◌, [], length, map, take, drop, IsTrue, IsSome, IfSome, IfErr, OnOk, OnErr};
+ghost use Rattle.std.specs.Prelude.{◌≡◌, ◌≤◌, ◌++◌, ◌∷◌, [], length, take, drop, IsTrue, IsSome, IfSome, IfErr, OnOk, OnErr};
 ghost use Rattle.tf_table.specs.Content.{entry_at};
-ghost use Rattle.tf_rows.specs.Changes.{CanChange, CanChangeAll, CanStepAll, all_changed, all_stepped, changed, listed, present};
-ghost use Rattle.tf_rows.specs.Made.{AreMade, change_of_key};
+ghost use Rattle.tf_rows.specs.Changes.{AreSingle, CanChange, CanChangeAll, CanStep, CanStepAll, CanTakeRecord, IsSingle, all_changed, all_stepped, changed, listed, present, stepped, without_record};
+ghost use Rattle.tf_rows.specs.Made.{AreMade};
 ghost use Rattle.tf_rows.specs.Packed.{AreAdded};
 ghost use Rattle.tf_rows.specs.Parts.{IsTakenBack};
+ghost use Rattle.tf_rows.specs.Record.{record_changes};
 
-use crate::{Before, RowSet, Steps};
+use crate::{Before, PutTransfer, RowSet, Steps};
 use std::alloc::Allocator;
 use tf_manifest::{Row, Value};
-use tf_records::Refusal;
+use tf_records::{Refusal, Transfer};
 use tf_table::Key;
 
 /// What a row has at a key afterwards: a value, or None.
@@ -20,19 +21,13 @@ pub struct Change {
     pub value: Option<Value>,
 }
 
-/// A key of an index, which has nothing beside it.
-#[derive(Clone, Copy)]
-pub(crate) struct IndexKey {
-    pub(crate) row: Row,
-    pub(crate) key: Key,
-}
-
-/// What a row's mutable table had at a key before a change.
-#[derive(Clone, Copy)]
-pub struct Step {
-    pub row: Row,
-    pub key: Key,
-    pub before: Before,
+/// What takes a change back.
+#[derive(Drop)]
+pub enum Step {
+    /// A key of a row's mutable table has the entry again that it had, or none.
+    Key { row: Row, key: Key, before: Before },
+    /// What a transfer's record put goes.
+    Transfer(PutTransfer),
 }
 
 /// Makes the changes that there are, one after another, and puts the steps that take them back behind others.
@@ -44,7 +39,8 @@ pub fn make_changes<S: RowSet, A: Allocator>(
     steps: &mut Steps<A>,
     changes: &[Option<Change>],
 ) -> Result<(), Refusal>
-    requires { CanChangeAll S.has_row S.fits S.takes_any (present changes.now) (S.parts set.old) }
+    requires single { AreSingle (present changes.now) }
+    requires can { CanChangeAll S.has_row S.fits S.takes_any (present changes.now) (S.parts set.old) }
     ensures rows { OnOk result (S.parts set.new ≡ all_changed (present changes.now) (S.parts set.old)) }
     ensures steps { OnOk result (AreAdded S.has_row S.fits S.takes_any steps.old steps.new (S.parts set.old) (S.parts set.new)) }
     ensures sealed { S.sealed set.new ≡ S.sealed set.old }
@@ -76,10 +72,11 @@ fn note<S: RowSet, A: Allocator>(
     key: &Key,
     before: &Before,
 ) -> Result<(), Refusal>
+    requires single { IsSingle row }
     requires has { IsTrue (S.has_row row) }
     requires there { IsSome (entry_at key.now (S.parts set.old row).fresh) }
     requires fits { IfSome before.now (λ entry. IfSome entry (λ value. IsTrue (S.fits row value))) }
-    ensures ok { OnOk result ((S.parts set.new ≡ S.parts set.old) × (steps.new ≡ steps.old ++ record { row = row; key = key.now; before = before.now } ∷ [])) }
+    ensures ok { OnOk result ((S.parts set.new ≡ S.parts set.old) × (steps.new ≡ steps.old ++ Step.Key row key.now before.now ∷ [])) }
     ensures err { OnErr result (IsTakenBack row key.now before.now (S.parts set.old) (S.parts set.new) × (steps.new ≡ steps.old)) }
     ensures sealed { S.sealed set.new ≡ S.sealed set.old }
     ensures refusal { IfErr result (λ refusal. refusal ≡ Refusal.NoMemory) }
@@ -101,7 +98,8 @@ fn make_change<S: RowSet, A: Allocator>(
     steps: &mut Steps<A>,
     change: &Change,
 ) -> Result<(), Refusal>
-    requires { CanChange S.has_row S.fits S.takes_any change.now (S.parts set.old) }
+    requires single { IsSingle change.now.row }
+    requires can { CanChange S.has_row S.fits S.takes_any change.now (S.parts set.old) }
     ensures rows { OnOk result (S.parts set.new ≡ changed change.now (S.parts set.old)) }
     ensures steps { OnOk result (AreAdded S.has_row S.fits S.takes_any steps.old steps.new (S.parts set.old) (S.parts set.new)) }
     ensures sealed { S.sealed set.new ≡ S.sealed set.old }
@@ -114,55 +112,51 @@ fn make_change<S: RowSet, A: Allocator>(
     }
 }
 
-/// Gives an index a key, and puts the step that takes it back behind others.
-///
-/// The only refusal is `NoMemory`, and it changes nothing.
-fn make_key<S: RowSet, A: Allocator>(
+/// Puts what a transfer's record alone gives, and the step that takes it away again behind others.
+pub(crate) fn make_record<S: RowSet, A: Allocator>(
     set: &mut S,
     steps: &mut Steps<A>,
-    place: &IndexKey,
+    transfer: &Transfer,
 ) -> Result<(), Refusal>
-    requires { CanChange S.has_row S.fits S.takes_any (change_of_key place.now) (S.parts set.old) }
-    ensures rows { OnOk result (S.parts set.new ≡ changed (change_of_key place.now) (S.parts set.old)) }
-    ensures steps { OnOk result (AreAdded S.has_row S.fits S.takes_any steps.old steps.new (S.parts set.old) (S.parts set.new)) }
+    requires { CanChangeAll S.has_row S.fits S.takes_any (record_changes transfer.now) (S.parts set.old) }
+    ensures made { AreMade S.has_row S.fits S.takes_any (record_changes transfer.now) result steps.old steps.new (S.parts set.old) (S.parts set.new) }
     ensures sealed { S.sealed set.new ≡ S.sealed set.old }
-    ensures err { OnErr result ((S.parts set.new ≡ S.parts set.old) × (steps.new ≡ steps.old)) }
-    ensures refusal { IfErr result (λ refusal. refusal ≡ Refusal.NoMemory) }
 {
-    match set.put_key(place.row, place.key) {
-        Ok(None) => note(set, steps, place.row, &place.key, &None),
-        Ok(Some(None)) => note(set, steps, place.row, &place.key, &Some(None)),
-        Ok(Some(Some(()))) => note(set, steps, place.row, &place.key, &Some(Some(Value::Unit))),
+    match set.put_transfer(transfer) {
+        Ok(()) => note_record(set, steps, transfer),
         Err(refusal) => Err(refusal),
     }
 }
 
-/// Makes changes of indexes, one after another. Where one is refused, those before it stay made.
-pub(crate) fn make_keys<S: RowSet, A: Allocator>(
+/// Puts the step that takes a transfer's record away behind others, or takes it away where there is no memory for the step.
+fn note_record<S: RowSet, A: Allocator>(
     set: &mut S,
     steps: &mut Steps<A>,
-    places: &[IndexKey],
+    transfer: &Transfer,
 ) -> Result<(), Refusal>
-    requires { CanChangeAll S.has_row S.fits S.takes_any (map change_of_key places.now) (S.parts set.old) }
-    ensures made { AreMade S.has_row S.fits S.takes_any (map change_of_key places.now) result steps.old steps.new (S.parts set.old) (S.parts set.new) }
+    requires { CanTakeRecord S.has_row S.fits S.takes_any transfer.now (S.parts set.old) }
+    ensures ok { OnOk result ((S.parts set.new ≡ S.parts set.old) × (steps.new ≡ steps.old ++ Step.Transfer transfer.now ∷ [])) }
+    ensures err { OnErr result ((S.parts set.new ≡ without_record transfer.now (S.parts set.old)) × (steps.new ≡ steps.old)) }
     ensures sealed { S.sealed set.new ≡ S.sealed set.old }
+    ensures refusal { IfErr result (λ refusal. refusal ≡ Refusal.NoMemory) }
 {
-    for place in places {
-        match make_key(set, steps, place) {
-            Ok(()) => {}
-            Err(refusal) => return Err(refusal),
+    match steps.push_transfer(transfer) {
+        Ok(()) => Ok(()),
+        Err(refusal) => {
+            set.take_transfer(&PutTransfer::of(transfer));
+            Err(refusal)
         }
     }
-    Ok(())
 }
 
 /// Makes a change, if there is one.
-fn make_any<S: RowSet, A: Allocator>(
+pub(crate) fn make_any<S: RowSet, A: Allocator>(
     set: &mut S,
     steps: &mut Steps<A>,
     change: &Option<Change>,
 ) -> Result<(), Refusal>
-    requires { CanChangeAll S.has_row S.fits S.takes_any (listed change.now) (S.parts set.old) }
+    requires single { AreSingle (listed change.now) }
+    requires can { CanChangeAll S.has_row S.fits S.takes_any (listed change.now) (S.parts set.old) }
     ensures made { AreMade S.has_row S.fits S.takes_any (listed change.now) result steps.old steps.new (S.parts set.old) (S.parts set.new) }
     ensures sealed { S.sealed set.new ≡ S.sealed set.old }
 {
@@ -179,7 +173,8 @@ pub(crate) fn make_two<S: RowSet, A: Allocator>(
     first: &Option<Change>,
     second: &Option<Change>,
 ) -> Result<(), Refusal>
-    requires { CanChangeAll S.has_row S.fits S.takes_any (listed first.now ++ listed second.now) (S.parts set.old) }
+    requires single { AreSingle (listed first.now ++ listed second.now) }
+    requires can { CanChangeAll S.has_row S.fits S.takes_any (listed first.now ++ listed second.now) (S.parts set.old) }
     ensures made { AreMade S.has_row S.fits S.takes_any (listed first.now ++ listed second.now) result steps.old steps.new (S.parts set.old) (S.parts set.new) }
     ensures sealed { S.sealed set.new ≡ S.sealed set.old }
 {
@@ -198,8 +193,23 @@ pub fn take_steps<S: RowSet, A: Allocator>(set: &mut S, steps: &mut Steps<A>, le
     ensures sealed { S.sealed set.new ≡ S.sealed set.old }
 {
     while steps.len() > left {
-        if let Some(step) = steps.pop() {
-            set.take_back(step.row, &step.key, step.before);
+        match steps.pop() {
+            Some(step) => take_step(set, step),
+            None => {}
         }
+    }
+}
+
+/// Takes a change back. It takes no memory.
+#[inline(always)]
+#[tactic(auto, using(crate::proofs::Stepping::taken_stepped))]
+fn take_step<S: RowSet>(set: &mut S, step: Step)
+    requires { CanStep S.has_row S.fits S.takes_any step (S.parts set.old) }
+    ensures rows { S.parts set.new ≡ stepped step (S.parts set.old) }
+    ensures sealed { S.sealed set.new ≡ S.sealed set.old }
+{
+    match step {
+        Step::Key { row, key, before } => set.take_back(row, &key, before),
+        Step::Transfer(transfer) => set.take_transfer(&transfer),
     }
 }

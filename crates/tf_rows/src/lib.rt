@@ -20,6 +20,7 @@ mod found;
 mod laws;
 mod look_ups;
 mod mutable_rows;
+mod put_transfer;
 mod resident;
 mod row_change;
 mod row_set;
@@ -46,6 +47,7 @@ pub use laws::{
 };
 pub use look_ups::{account, id_use, party, pending, shown, status, transfer};
 pub use mutable_rows::{Before, MutableRows};
+pub use put_transfer::PutTransfer;
 pub use resident::Resident;
 pub use row_set::RowSet;
 pub use seal_rows::SealRows;

@@ -7,7 +7,6 @@ ghost use Rattle.tf_rows.specs.Next.{change_of};
 ghost use Rattle.tf_manifest.specs.declared.row.Row.{Row};
 ghost use Rattle.tf_manifest.specs.declared.value.Value.{Value};
 
-use crate::change::IndexKey;
 use crate::{Change, Party};
 use tf_journal::{Status, expires_at, has_flag};
 use tf_manifest::{Row, Value};
@@ -30,19 +29,6 @@ pub(crate) fn index(row: Row, field: u128, timestamp: u64) -> Option<Change>
     ensures { result ≡ Some (record { row = row; key = record { value = field; timestamp = timestamp }; value = Some Value.Unit }) }
 {
     put(row, field, timestamp, Value::Unit)
-}
-
-/// The key that an index has for a field and a record's timestamp.
-pub(crate) fn index_key(row: Row, field: u128, timestamp: u64) -> IndexKey
-    ensures { result ≡ record { row = row; key = record { value = field; timestamp = timestamp } } }
-{
-    IndexKey {
-        row,
-        key: Key {
-            value: field,
-            timestamp,
-        },
-    }
 }
 
 /// An account has this state.

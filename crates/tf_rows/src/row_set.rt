@@ -1,14 +1,16 @@
 //! Rows, each of its own kind of value, that are found, written and taken back by their names.
-ghost use Rattle.std.specs.Prelude.{◌≡◌, ◌⊎◌, Bool, None, Some, IsTrue, IsSome, IfSome, IfOk, IfErr, OnErr};
+ghost use Rattle.std.specs.Prelude.{◌≡◌, ◌⊎◌, Bool, None, IsTrue, IsSome, IfSome, IfOk, IfErr, OnOk, OnErr};
 ghost use Rattle.tf_table.specs.Content.{entry_at};
 ghost use Rattle.tf_manifest.specs.declared.row.Row.{Row};
 ghost use Rattle.tf_manifest.specs.declared.value.Value.{Value};
+ghost use Rattle.tf_rows.specs.Changes.{CanChangeAll, CanTakeRecord, IsSingle, all_changed, without_record};
 ghost use Rattle.tf_rows.specs.Counts.{Sealed};
-ghost use Rattle.tf_rows.specs.Parts.{IsPut, IsTakenBack, Parts, seen_before, value_of_part};
+ghost use Rattle.tf_rows.specs.Parts.{IsPut, IsTakenBack, Parts, value_of_part};
+ghost use Rattle.tf_rows.specs.Record.{record_changes};
 
-use crate::Before;
+use crate::{Before, PutTransfer};
 use tf_manifest::{Row, Value};
-use tf_records::Refusal;
+use tf_records::{Refusal, Transfer};
 use tf_table::Key;
 
 /// Rows, each with its mutable table and its sealed ones.
@@ -37,10 +39,12 @@ pub trait RowSet {
         requires { IsTrue (has_row row) }
         ensures { result ≡ value_of_part (parts self.now row) key.now };
 
-    /// Gives a key of a row an entry, a value or None for a tombstone, and tells the one that its mutable table had.
+    /// Gives a key of a row an entry, a value or None for a tombstone, and tells the one that its mutable table had. The row has nothing
+    /// of transfers' records.
     ///
     /// The only refusal is `NoMemory`, and it changes nothing.
     fn put(&mut self, row: Row, key: Key, entry: &Option<Value>) -> Result<Before, Refusal>
+        requires single { IsSingle row }
         requires has { IsTrue (has_row row) }
         requires new { (entry_at key (parts self.old row).fresh ≡ None) ⊎ takes_any row }
         requires fits { IfSome entry.now (λ value. IsTrue (fits row value)) }
@@ -50,22 +54,30 @@ pub trait RowSet {
         ensures err { OnErr result (parts self.new ≡ parts self.old) }
         ensures refusal { IfErr result (λ refusal. refusal ≡ Refusal.NoMemory) };
 
-    /// Gives a key of a row that stores nothing beside its keys an entry, as `put` does, and tells the one that its mutable table
-    /// had. A value is nothing there, so none is handed on that has room for those of other rows.
-    fn put_key(&mut self, row: Row, key: Key) -> Result<Option<Option<()>>, Refusal>
-        requires has { IsTrue (has_row row) }
-        requires new { (entry_at key (parts self.old row).fresh ≡ None) ⊎ takes_any row }
-        requires fits { IsTrue (fits row Value.Unit) }
-        ensures put { IfOk result (λ before. IsPut row key (Some Value.Unit) (seen_before before) (parts self.old) (parts self.new)) }
-        ensures sealed { sealed self.new ≡ sealed self.old }
-        ensures err { OnErr result (parts self.new ≡ parts self.old) }
-        ensures refusal { IfErr result (λ refusal. refusal ≡ Refusal.NoMemory) };
-
-    /// Gives a key of a row the entry back that `put` told, or none. It takes no memory.
+    /// Gives a key of such a row the entry back that `put` told, or none. It takes no memory.
     fn take_back(&mut self, row: Row, key: &Key, before: Before)
+        requires single { IsSingle row }
         requires has { IsTrue (has_row row) }
         requires there { IsSome (entry_at key.now (parts self.old row).fresh) }
         requires fits { IfSome before (λ entry. IfSome entry (λ value. IsTrue (fits row value))) }
         ensures back { IsTakenBack row key.now before (parts self.old) (parts self.new) }
+        ensures sealed { sealed self.new ≡ sealed self.old };
+
+    /// Puts what a transfer's record alone gives: its object, and a key in each of its seven indexes.
+    ///
+    /// The only refusal is `NoMemory`, and it changes nothing.
+    fn put_transfer(&mut self, transfer: &Transfer) -> Result<(), Refusal>
+        requires { CanChangeAll has_row fits takes_any (record_changes transfer.now) (parts self.old) }
+        ensures put { OnOk result (parts self.new ≡ all_changed (record_changes transfer.now) (parts self.old)) }
+        ensures there { OnOk result (CanTakeRecord has_row fits takes_any transfer.now (parts self.new)) }
+        ensures restores { OnOk result (without_record transfer.now (parts self.new) ≡ parts self.old) }
+        ensures sealed { sealed self.new ≡ sealed self.old }
+        ensures err { OnErr result (parts self.new ≡ parts self.old) }
+        ensures refusal { IfErr result (λ refusal. refusal ≡ Refusal.NoMemory) };
+
+    /// Takes what `put_transfer` put away again. It takes no memory.
+    fn take_transfer(&mut self, transfer: &PutTransfer)
+        requires { CanTakeRecord has_row fits takes_any transfer.now (parts self.old) }
+        ensures back { parts self.new ≡ without_record transfer.now (parts self.old) }
         ensures sealed { sealed self.new ≡ sealed self.old };
 }

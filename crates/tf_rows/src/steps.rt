@@ -1,48 +1,69 @@
 //! Steps that take changes back, in little room.
 ghost use Rattle.std.specs.Prelude.{◌≡◌, ◌++◌, ◌∷◌, [], is_some, length, OnOk, OnErr, IfErr, MatchOption};
 ghost use Rattle.std.specs.Option.{option_to_list};
-ghost use Rattle.tf_rows.specs.Packed.{step_of};
+ghost use Rattle.tf_rows.specs.Packed.{had_of, step_of};
 
-use crate::{Before, Step};
+use crate::{Before, PutTransfer, Step};
 use std::alloc::Allocator;
 use std::marker::Model;
 use tf_manifest::{Row, Value};
-use tf_records::Refusal;
+use tf_records::{Refusal, Transfer};
 use tf_table::Key;
 
-/// A key of a row that was changed, and whether it had an entry. It has 32 bytes.
-#[derive(Clone, Copy)]
-pub(crate) struct Touched {
-    value: u128,
-    timestamp: u64,
-    row: Row,
-    had: bool,
+/// What was changed: a key of a row, with whether it had an entry, or what a transfer's record put. It has 32 bytes, since the
+/// fields lie in this order behind the tag.
+#[derive(Drop)]
+pub(crate) enum Touched {
+    Key {
+        had: bool,
+        row: Row,
+        timestamp: u64,
+        value: u128,
+    },
+    Transfer(PutTransfer),
 }
 
 impl Touched {
-    fn new(row: Row, key: &Key, before: &Before) -> Touched
-        ensures had { result.had ≡ is_some before.now }
-        ensures step { step_of result (option_to_list before.now) ≡ record { row = row; key = key.now; before = before.now } }
+    fn key(row: Row, key: &Key, before: &Before) -> Touched
+        ensures had { had_of result ≡ is_some before.now }
+        ensures step { step_of result (option_to_list before.now) ≡ Step.Key row key.now before.now }
     {
-        Touched {
-            value: key.value,
-            timestamp: key.timestamp,
-            row,
+        Touched::Key {
             had: before.is_some(),
+            row,
+            timestamp: key.timestamp,
+            value: key.value,
         }
     }
 
-    /// The step with what the key had.
-    fn step(self, before: Before) -> Step
-        ensures { result ≡ record { row = self.row; key = record { value = self.value; timestamp = self.timestamp }; before = before } }
+    /// Whether it had an entry.
+    fn had(&self) -> bool
+        ensures { result ≡ had_of self.now }
     {
-        Step {
-            row: self.row,
-            key: Key {
-                value: self.value,
-                timestamp: self.timestamp,
+        match self {
+            Touched::Key { had, .. } => *had,
+            Touched::Transfer(_) => false,
+        }
+    }
+
+    /// The step that takes it back, with what the key had.
+    #[tactic(auto, using(crate::proofs::Touched::before_kept))]
+    fn step(self, before: Before) -> Step
+        requires { had_of self ≡ is_some before }
+        ensures { result ≡ step_of self (option_to_list before) }
+    {
+        match self {
+            Touched::Key {
+                row,
+                timestamp,
+                value,
+                ..
+            } => Step::Key {
+                row,
+                key: Key { value, timestamp },
+                before,
             },
-            before,
+            Touched::Transfer(transfer) => Step::Transfer(transfer),
         }
     }
 }
@@ -54,7 +75,7 @@ impl Touched {
 #[derive(Drop)]
 pub struct Steps<A: Allocator> {
     touched: Vec<Touched, A>,
-    /// What those of the keys had that had an entry, in their order.
+    /// What those keys had that had an entry, in their order.
     entries: Vec<Option<Value>, A>,
 }
 
@@ -99,9 +120,10 @@ impl<A: Allocator> Steps<A> {
         self.entries.clear();
     }
 
-    /// Puts a step behind the others. The only refusal is `NoMemory`, and it changes nothing.
+    /// Puts the step behind the others that gives a key the entry back that it had. The only refusal is `NoMemory`, and it changes
+    /// nothing.
     pub(crate) fn push(&mut self, row: Row, key: &Key, before: &Before) -> Result<(), Refusal>
-        ensures ok { OnOk result (self.new ≡ self.old ++ record { row = row; key = key.now; before = before.now } ∷ []) }
+        ensures ok { OnOk result (self.new ≡ self.old ++ Step.Key row key.now before.now ∷ []) }
         ensures err { OnErr result (self.new ≡ self.old) }
         ensures refusal { IfErr result (λ refusal. refusal ≡ Refusal.NoMemory) }
     {
@@ -111,11 +133,26 @@ impl<A: Allocator> Steps<A> {
         if self.entries.reserve(1).is_err() {
             return Err(Refusal::NoMemory);
         }
-        self.touched.push_reserved(Touched::new(row, key, before));
+        self.touched.push_reserved(Touched::key(row, key, before));
         match before {
             Some(entry) => self.entries.push_reserved(*entry),
             None => {}
         }
+        Ok(())
+    }
+
+    /// Puts the step behind the others that takes a transfer's record away. The only refusal is `NoMemory`, and it changes nothing.
+    #[tactic(auto, using(crate::proofs::Touched::recorded_count, crate::proofs::Touched::recorded_steps))]
+    pub(crate) fn push_transfer(&mut self, transfer: &Transfer) -> Result<(), Refusal>
+        ensures ok { OnOk result (self.new ≡ self.old ++ Step.Transfer transfer.now ∷ []) }
+        ensures err { OnErr result (self.new ≡ self.old) }
+        ensures refusal { IfErr result (λ refusal. refusal ≡ Refusal.NoMemory) }
+    {
+        if self.touched.reserve(1).is_err() {
+            return Err(Refusal::NoMemory);
+        }
+        self.touched
+            .push_reserved(Touched::Transfer(PutTransfer::of(transfer)));
         Ok(())
     }
 
@@ -124,7 +161,7 @@ impl<A: Allocator> Steps<A> {
         ensures { MatchOption result ((self.old ≡ []) × (self.new ≡ [])) (λ step. self.old ≡ self.new ++ step ∷ []) }
     {
         let touched = self.touched.pop()?;
-        if !touched.had {
+        if !touched.had() {
             return Some(touched.step(None));
         }
         match self.entries.pop() {

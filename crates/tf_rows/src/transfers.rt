@@ -4,16 +4,14 @@ ghost use Rattle.tf_journal.specs.declared.entry.Entry.{Entry};
 ghost use Rattle.tf_manifest.specs.declared.row.Row.{Row};
 ghost use Rattle.tf_rows.specs.Changes.{CanChangeAll, all_changed, listed};
 ghost use Rattle.tf_rows.specs.Edits.{expiry_edits, status_edits};
-ghost use Rattle.tf_rows.specs.Made.{AreMade, change_of_key, index_changes};
+ghost use Rattle.tf_rows.specs.Made.{AreMade};
 ghost use Rattle.tf_rows.specs.Next.{change_of, changes_by};
 ghost use Rattle.tf_rows.specs.Packed.{AreAdded};
 ghost use Rattle.tf_rows.specs.Range.{MovesInRange};
 
 use crate::account_states::party_after;
-use crate::change::{IndexKey, make_keys, make_two};
-use crate::row_change::{
-    expiry_change, history_change, index_key, put, state_change, status_change,
-};
+use crate::change::{make_any, make_record, make_two};
+use crate::row_change::{expiry_change, history_change, put, state_change, status_change};
 use crate::{Change, Found, RowSet, Steps, take_steps};
 use std::alloc::Allocator;
 use tf_journal::{Side, Status, is_pending, is_post};
@@ -43,22 +41,6 @@ fn expiry_after(transfer: &Transfer, settled: &Option<Transfer>) -> Option<Chang
     }
 }
 
-/// The keys that a transfer adds to the indexes.
-fn transfer_keys(transfer: &Transfer) -> [IndexKey; 7]
-    ensures { map change_of_key result ≡ index_changes transfer.now }
-{
-    let at = transfer.timestamp;
-    [
-        index_key(Row::TransferDebit, transfer.debit_account_id, at),
-        index_key(Row::TransferCredit, transfer.credit_account_id, at),
-        index_key(Row::TransferUserData128, transfer.user_data_128, at),
-        index_key(Row::TransferUserData64, transfer.user_data_64 as u128, at),
-        index_key(Row::TransferUserData32, transfer.user_data_32 as u128, at),
-        index_key(Row::TransferLedger, transfer.ledger as u128, at),
-        index_key(Row::TransferCode, transfer.code as u128, at),
-    ]
-}
-
 /// Makes what a transfer changes, one change after another, by what was looked up for it. Where one is refused, those before it
 /// stay made.
 fn make_transfer<S: RowSet, A: Allocator>(
@@ -72,20 +54,23 @@ fn make_transfer<S: RowSet, A: Allocator>(
     ensures made { AreMade S.has_row S.fits S.takes_any (changes_by found.now (Entry.Transfer transfer.now)) result steps.old steps.new (S.parts rows.old) (S.parts rows.new) }
     ensures sealed { S.sealed rows.new ≡ S.sealed rows.old }
 {
-    let at = transfer.timestamp;
     let debit = party_after(Side::Debit, transfer, &found.settled, &found.debit);
     let credit = party_after(Side::Credit, transfer, &found.settled, &found.credit);
     match make_two(rows, steps, &state_change(&debit), &state_change(&credit)) {
         Ok(()) => {}
         Err(refusal) => return Err(refusal),
     }
-    let object = put(Row::TransferObjects, 0, at, Value::Transfer(*transfer));
-    let id = put(Row::TransferIds, transfer.id, 0, Value::Stamp(at));
-    match make_two(rows, steps, &object, &id) {
+    let id = put(
+        Row::TransferIds,
+        transfer.id,
+        0,
+        Value::Stamp(transfer.timestamp),
+    );
+    match make_any(rows, steps, &id) {
         Ok(()) => {}
         Err(refusal) => return Err(refusal),
     }
-    match make_keys(rows, steps, &transfer_keys(transfer)) {
+    match make_record(rows, steps, transfer) {
         Ok(()) => {}
         Err(refusal) => return Err(refusal),
     }

@@ -21,7 +21,6 @@ use Rattle.tf_publish.specs.contracts.rows.Rows as Rows
 use Rattle.tf_forest.specs.contracts.forest.Forest as Forest
 use Rattle.tf_forest.specs.contracts.forest.Forest.TheInside as ForestIn
 use Rattle.tf_forest.specs.contracts.note.Notes as Notes
-use Rattle.tf_forest.proofs.note.Notes.TheSendSync as notes
 use Rattle.tf_history.proofs.front.Front.TheSendSync as front
 use Rattle.tf_history.proofs.writer.Writer.TheSendSync as writer
 use Rattle.tf_store.proofs.queue.Queue.TheSendSync as queue
@@ -131,7 +130,7 @@ module _ (A : RattleType) (a : Allocator.Ghosts A.Denot) (A-send : IsSend A) (A-
         store-send = view_send (StoreIn.the_row F C A N f c a n l h) _ _ _ _ store_in-send
 
   notes-send : IsSend (Notes.the_row A a)
-  notes-send = search (notes.the_send, A-send, A-sync, frees, crosses, over.crosses, sendable) depth 30
+  notes-send = search (crosses, over.crosses, sendable) depth 60 fits 20000
 
   forest_in-send : (R : RattleType) (r : _) → IsSend R → IsSend (ForestIn.the_row R A r a)
   forest_in-send R r R-send =

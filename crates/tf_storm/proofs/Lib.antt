@@ -1,3 +1,2 @@
-mod Counting
 mod Reading
 mod Telling

@@ -1,9 +1,6 @@
 -- What a storm of scripts tells.
 use Rattle.std.specs.Prelude.{◌≡◌, ◌⊎◌, ℕ, ◌<◌, List, [], ◌∷◌, length, Option, Some, None, Result, Ok, Err, ⊤}
 use Rattle.std.specs.Io.KnownBytes.{Appends, Keeps}
-use Rattle.tf_journal.specs.declared.entry.Entry.{Entry}
-use Rattle.tf_journal.specs.Laws.{IsWithinLimits}
-use Rattle.tf_journal.specs.Lawful.{IsLawful}
 use Rattle.tf_script.specs.Command.{Command}
 use Rattle.tf_script.specs.Script.{Place, script_of}
 use Rattle.tf_main.specs.declared.ending.Ending.{Ending}
@@ -12,10 +9,9 @@ use Rattle.tf_main.specs.declared.ending.Ending.TheVariants as ending
 use Rattle.tf_main.specs.declared.fault.RunFault.TheVariants.{NoMemory, BadLine, CannotWrite}
 use Rattle.tf_main.specs.Line.{totals_lines}
 use Rattle.tf_main.specs.Output.{AppendsPart}
-use Rattle.tf_store.specs.Book.{book_of}
 use Rattle.tf_storm.specs.declared.faults.RunStormFault.{RunStormFault}
 use Rattle.tf_storm.specs.declared.faults.RunStormFault.TheVariants.{Run, NoThread}
-use Rattle.tf_workers.specs.declared.storms.Totals.{Totals}
+use Rattle.tf_totals.specs.Totals.{IsBook}
 
 -- the fault of a script that was read, else the first of the scripts behind it
 abbrev pub or_later : Result (List Command) Place → Option Place → Option Place
@@ -26,19 +22,6 @@ or_later (Err place) later = Some place
 abbrev pub first_fault_of : List (List ℕ) → Option Place
 first_fault_of [] = None
 first_fault_of (script ∷ scripts) = or_later (script_of script) (first_fault_of scripts)
-
--- a number that is the book of a lawful journal
-pub record IsBook (number : ℕ) : Type 0 where
-  pub journal : List Entry
-  pub lawful : IsLawful journal
-  pub limits : IsWithinLimits journal
-  pub counted : number ≡ book_of journal
-
--- the totals of a storm of so many clients: what their shares count is what is stored, the book of a lawful journal
-pub record AreTotals (clients : ℕ) (totals : Totals) : Type 0 where
-  pub clients_are : totals.clients ≡ clients
-  pub shares_are : totals.shares ≡ totals.stored
-  pub book : IsBook totals.stored
 
 -- the lines of a storm of so many scripts were written, and nothing else: how many clients there were, and twice the book of a
 -- lawful journal

@@ -1,10 +1,9 @@
 //! The making of a store that threads share, step by step: each step says one thing more of it.
-ghost use Rattle.std.specs.Prelude.{◌≡◌, ◌<◌, ◌≤◌, vec_len, IfErr, IfOk, MatchResult};
-ghost use Rattle.std.specs.Result.{is_ok};
+ghost use Rattle.std.specs.Prelude.{◌≡◌, ◌<◌, ◌≤◌, vec_len, IfOk, MatchResult};
 ghost use Rattle.tf_manifest.specs.Registries.{AreShelves};
-ghost use Rattle.tf_store.specs.Book.{book_of};
 ghost use Rattle.tf_store.specs.Rooms.{FitsRows};
-ghost use Rattle.tf_storm.specs.Storm.{AreTotals, IsBook, StopsWorking};
+ghost use Rattle.tf_storm.specs.Storm.{StopsWorking};
+ghost use Rattle.tf_totals.specs.Totals.{AreTotals};
 
 use crate::faults::RunStormFault;
 use crate::tasks::Tasks;
@@ -20,10 +19,8 @@ use tf_readers::{Copies, Publishable, Reader};
 use tf_records::Refusal;
 use tf_rows::{EmptyRows, SealRows};
 use tf_store::{BlankStore, Share, StoreName, StoreOf, VersionCopies, VersionOf};
-use tf_workers::{Done, Gate, SharedStore, StormFault, Totals, storm_shared};
-
-/// What a storm counted, and what each of its workers did.
-pub(crate) type Counted = (Totals, Vec<Done, Global>);
+use tf_totals::{Counted, totals_of};
+use tf_workers::{Gate, StormFault};
 
 /// Runs the tasks of a storm over a store with registries of its own, and tells what was counted. What is stored is what the
 /// clients' shares count together.
@@ -200,54 +197,9 @@ where
 {
     let works = tasks.works.as_slice();
     let asks = tasks.asks.as_slice();
-    let shared = SharedStore::new(store);
-    told(storm_shared(rt, alloc, alloc, shared, shares, readers, works, asks, gate))
-}
-
-/// What was counted, once the store is dropped.
-fn told<T, C, S>(
-    ended: Result<(SharedStore<T, C, Global, S>, Totals, Vec<Done, Global>), StormFault>,
-) -> Result<Counted, RunStormFault>
-where
-    T: SealRows<Global> + Drop,
-    C: VersionCopies<Version<Global, S>, S> + Drop,
-    S: StoreName,
-    requires stored { IfOk ended (λ e. e.1.stored ≡ book_of e.0.store.forest.journal) }
-    ensures same { is_ok result ≡ is_ok ended }
-    ensures totals { IfOk result (λ counted. IfOk ended (λ e. (counted.0 ≡ e.1) × IsBook e.1.stored)) }
-    ensures fault { IfErr result StopsWorking }
-{
-    match ended {
-        Ok((shared, totals, done)) => {
-            let totals = settled(&shared, totals);
-            close(shared);
-            Ok((totals, done))
-        }
+    match totals_of(rt, alloc, store, shares, readers, works, asks, gate) {
+        Ok(counted) => Ok(counted),
         Err(StormFault::NoMemory) => Err(RunStormFault::Run(RunFault::NoMemory)),
         Err(StormFault::NoThread) => Err(RunStormFault::NoThread),
     }
-}
-
-/// The totals of a storm, whose store has a lawful journal.
-fn settled<T, C, S>(shared: &SharedStore<T, C, Global, S>, totals: Totals) -> Totals
-where
-    T: SealRows<Global> + Drop,
-    C: VersionCopies<Version<Global, S>, S> + Drop,
-    S: StoreName,
-    requires { totals.stored ≡ book_of shared.now.store.forest.journal }
-    ensures same { result ≡ totals }
-    ensures book { IsBook result.stored }
-{
-    shared.store.facts();
-    totals
-}
-
-/// Uses a store up. It is a function of its own: no other here compares what the store's parts make up.
-fn close<T, C, S>(shared: SharedStore<T, C, Global, S>)
-where
-    T: SealRows<Global> + Drop,
-    C: VersionCopies<Version<Global, S>, S> + Drop,
-    S: StoreName,
-{
-    shared.into_store().close();
 }

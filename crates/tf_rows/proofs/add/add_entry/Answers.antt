@@ -6,10 +6,14 @@ use Rattle.tf_rows.specs.declared.change.Change.{Change}
 use Rattle.tf_rows.specs.Changes.{CanChangeAll, present}
 use Rattle.tf_rows.specs.Next.{changes_by}
 use Rattle.tf_rows.proofs.Added.{changed_by, made_by, shown_by}
+use Rattle.tf_rows.proofs.Single.{single_account, single_expiry, single_failed, single_made}
 use Rattle.tf_rows.proofs.add.add_entry.Goals as goal
 
-pub make_changes-requires : goal.make_changes-requires
-make_changes-requires g c =
+pub make_changes-requires-clause-single : goal.make_changes-requires-clause-single
+make_changes-requires-clause-single g c = single_made (present c.account_changes.result) _ c.account_changes.ensures (single_account c.in-Account.account)
+
+pub make_changes-requires-clause-can : goal.make_changes-requires-clause-can
+make_changes-requires-clause-can g c =
     subst (λ (cs : List Change). CanChangeAll g.S.RowSet.has_row g.S.RowSet.fits g.S.RowSet.takes_any cs (g.S.RowSet.parts c.args.rows.now))
     (sym (made_by (g.S.RowSet.parts c.args.rows.now) c.args.found.now (present c.account_changes.result) (entry.Account c.in-Account.account) c.args.entry.now c.in-Account.is c.account_changes.ensures)) c.requires.can
 
@@ -43,8 +47,12 @@ returns-in-Transfer-clause-rows g c =
     (changed_by (g.S.RowSet.parts c.args.rows.now) c.args.found.now (changes_by c.args.found.now (entry.Transfer c.in-Transfer.transfer)) (entry.Transfer c.in-Transfer.transfer) c.args.entry.now c.in-Transfer.is refl (g.S.RowSet.parts c.add_transfer.new.rows))
     c.add_transfer.ensures.rows
 
-pub make_changes-requires-in-Expiry : goal.make_changes-requires-in-Expiry
-make_changes-requires-in-Expiry g c =
+pub make_changes-requires-in-Expiry-clause-single : goal.make_changes-requires-in-Expiry-clause-single
+make_changes-requires-in-Expiry-clause-single g c =
+    single_made (present c.expiry_changes.result) _ c.expiry_changes.ensures (single_expiry c.args.found.now c.in-Expiry.timestamp c.in-Expiry.pending)
+
+pub make_changes-requires-in-Expiry-clause-can : goal.make_changes-requires-in-Expiry-clause-can
+make_changes-requires-in-Expiry-clause-can g c =
     subst (λ (cs : List Change). CanChangeAll g.S.RowSet.has_row g.S.RowSet.fits g.S.RowSet.takes_any cs (g.S.RowSet.parts c.args.rows.now))
     (sym (made_by (g.S.RowSet.parts c.args.rows.now) c.args.found.now (present c.expiry_changes.result) (entry.Expiry c.in-Expiry.timestamp c.in-Expiry.pending) c.args.entry.now c.in-Expiry.is c.expiry_changes.ensures)) c.requires.can
 
@@ -61,8 +69,12 @@ returns-in-Expiry-clause-rows g c =
     (changed_by (g.S.RowSet.parts c.args.rows.now) c.args.found.now (present c.expiry_changes.result) (entry.Expiry c.in-Expiry.timestamp c.in-Expiry.pending) c.args.entry.now c.in-Expiry.is c.expiry_changes.ensures (g.S.RowSet.parts c.make_changes-in-Expiry.new.set))
     c.make_changes-in-Expiry.ensures.rows
 
-pub make_changes-requires-in-Failed : goal.make_changes-requires-in-Failed
-make_changes-requires-in-Failed g c =
+pub make_changes-requires-in-Failed-clause-single : goal.make_changes-requires-in-Failed-clause-single
+make_changes-requires-in-Failed-clause-single g c =
+    single_made (present c.failed_changes.result) _ c.failed_changes.ensures (single_failed c.in-Failed.timestamp c.in-Failed.id)
+
+pub make_changes-requires-in-Failed-clause-can : goal.make_changes-requires-in-Failed-clause-can
+make_changes-requires-in-Failed-clause-can g c =
     subst (λ (cs : List Change). CanChangeAll g.S.RowSet.has_row g.S.RowSet.fits g.S.RowSet.takes_any cs (g.S.RowSet.parts c.args.rows.now))
     (sym (made_by (g.S.RowSet.parts c.args.rows.now) c.args.found.now (present c.failed_changes.result) (entry.Failed c.in-Failed.timestamp c.in-Failed.id) c.args.entry.now c.in-Failed.is c.failed_changes.ensures)) c.requires.can
 

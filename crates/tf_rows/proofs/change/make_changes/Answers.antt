@@ -16,7 +16,8 @@ in_front old new steps from is count = ap (λ (ss : List Step). take from ss) is
 
 pub loop-change-init : goal.loop-change-init
 loop-change-init g c = record {
-  can = c.requires;
+  single = c.requires.single;
+  can = c.requires.can;
   steps = none_added g.S.RowSet.has_row g.S.RowSet.fits g.S.RowSet.takes_any c.args.steps.now (g.S.RowSet.parts c.args.set.now);
   rows = refl;
   from = c.len-from.ensures;
@@ -61,6 +62,7 @@ returns-clause-sealed g c = c.loop-change.invariant.sealed
 
 pub loop-change-preserved : goal.loop-change-preserved
 loop-change-preserved g c = record {
+  single = grind (arith, common_steps);
   can = grind (arith, common_steps);
   steps = more_added g.S.RowSet.has_row g.S.RowSet.fits g.S.RowSet.takes_any c.args.steps.now c.loop-change.steps c.make_change.new.steps (g.S.RowSet.parts c.args.set.now) (g.S.RowSet.parts c.loop-change.set) (g.S.RowSet.parts c.make_change.new.set)
       c.loop-change.invariant.steps c.in-Ok.ensures.steps;

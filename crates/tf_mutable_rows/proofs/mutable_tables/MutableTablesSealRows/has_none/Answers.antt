@@ -1,8 +1,8 @@
 use Rattle.std.proofs.Common.{refl, sym, ◌∙◌, ap}
-use Rattle.tf_manifest.specs.Kinds.{unit_index}
 use Rattle.tf_manifest.specs.declared.kind.Kind.TheVariants as kind
 use Rattle.tf_manifest.specs.declared.kind.StampRow.TheVariants as stamp
-use Rattle.tf_mutable_rows.proofs.Fresh.{at_last, index_read, no_log, no_tree}
+use Rattle.tf_mutable_rows.proofs.Fresh.{expiry_read, field_read, index_read, no_log, no_tree}
+use Rattle.tf_mutable_rows.proofs.Indexes.{no_keys}
 use Rattle.tf_mutable_rows.proofs.mutable_tables.MutableTablesSealRows.has_none.Goals as goal
 
 pub returns-in-Stamp-AccountIds : goal.returns-in-Stamp-AccountIds
@@ -20,17 +20,20 @@ returns-in-Transfer g c = no_log _ c.args.self.now c.self.view_is c.args.row kin
 pub returns-in-Id : goal.returns-in-Id
 returns-in-Id g c = no_tree _ c.args.self.now c.self.view_is c.args.row kind.Id c.in-Id.ensures _ refl _ c.is_empty-in-Id.ensures
 
-pub returns-in-Some : goal.returns-in-Some
-returns-in-Some g c = no_log _ c.args.self.now c.self.view_is c.args.row (kind.Unit c.in-Unit.row) c.in-Unit.ensures _ (index_read _ _ _ c.in-Unit.row c.in-Some.place _ _ c.in-Some.ensures.index c.in-Some.ensures.below c.self.invariant c.as_slice.ensures c.index-as_slice-place.is) _ c.is_empty-in-Some.ensures
+pub returns-in-OfAccounts : goal.returns-in-OfAccounts
+returns-in-OfAccounts g c = no_log _ c.args.self.now c.self.view_is c.args.row (kind.Unit c.in-Unit.row) c.in-Unit.ensures _ (index_read _ _ _ c.in-Unit.row c.in-OfAccounts.at _ _ c.in-OfAccounts.ensures.0 c.in-OfAccounts.ensures.1 c.self.invariant c.as_slice.ensures c.index-as_slice-at.is) _ c.is_empty-in-OfAccounts.ensures
 
-pub returns-in-None : goal.returns-in-None
-returns-in-None g c = no_tree _ c.args.self.now c.self.view_is c.args.row (kind.Unit c.in-Unit.row) c.in-Unit.ensures _ (at_last _ _ (unit_index c.in-Unit.row) (c.in-None.ensures.expiry ∙ sym c.self.invariant)) _ c.is_empty-in-None.ensures
+pub returns-in-OfTransfers : goal.returns-in-OfTransfers
+returns-in-OfTransfers g c = no_log _ c.args.self.now c.self.view_is c.args.row (kind.Unit c.in-Unit.row) c.in-Unit.ensures _ (field_read c.self.inside.account_indexes c.self.inside.transfers c.self.inside.expiry c.self.invariant c.in-OfTransfers.field-0 c.in-Unit.row c.in-OfTransfers.ensures) _ (c.is_empty-in-OfTransfers.ensures ∙ no_keys c.in-OfTransfers.field-0 _)
+
+pub returns-in-Expiry : goal.returns-in-Expiry
+returns-in-Expiry g c = no_tree _ c.args.self.now c.self.view_is c.args.row (kind.Unit c.in-Unit.row) c.in-Unit.ensures _ (expiry_read _ c.self.inside.transfers _ c.self.invariant c.in-Unit.row c.in-Expiry.ensures) _ c.is_empty-in-Expiry.ensures
 
 pub returns-in-State : goal.returns-in-State
-returns-in-State g c = no_tree _ c.args.self.now c.self.view_is c.args.row kind.State c.in-State.ensures _ refl _ c.is_empty-in-State.ensures
+returns-in-State g c = no_log _ c.args.self.now c.self.view_is c.args.row kind.State c.in-State.ensures _ refl _ c.is_empty-in-State.ensures
 
 pub returns-in-Sums : goal.returns-in-Sums
 returns-in-Sums g c = no_log _ c.args.self.now c.self.view_is c.args.row kind.Sums c.in-Sums.ensures _ refl _ c.is_empty-in-Sums.ensures
 
 pub returns-in-Status : goal.returns-in-Status
-returns-in-Status g c = no_tree _ c.args.self.now c.self.view_is c.args.row kind.Status c.in-Status.ensures _ refl _ c.is_empty-in-Status.ensures
+returns-in-Status g c = no_log _ c.args.self.now c.self.view_is c.args.row kind.Status c.in-Status.ensures _ refl _ c.is_empty-in-Status.ensures
