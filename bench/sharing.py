@@ -58,6 +58,10 @@ class Side:
         """In a second of what the batches and publishes took of the client that took longest, with what they waited for the lock."""
         return COUNT / self.median(1) * 1e9
 
+    def passed(self):
+        """How many nanoseconds passed in each run from the start of all clients to the end of the last, in the order of the turns."""
+        return [numbers[self.wall] for numbers in self.runs]
+
     def each(self):
         """The queries a second of each run, in the order of the turns."""
         return [numbers[-1] / numbers[self.wall] * 1e9 for numbers in self.runs]
@@ -123,10 +127,14 @@ def wanted(sides):
         if clients == 1:
             continue
         (beside,) = (one for one, shape in SHARED.items() if shape == (1, readers))
-        gain = sides[name][0].transfers() / sides[beside][0].transfers()
+        one, many = sides[beside][0], sides[name][0]
+        gain = statistics.median(one.passed()) / statistics.median(many.passed())
         met = "met" if gain >= 1 else "missed"
-        turns = ", ".join(f"{one[1] / many[1]:.2f}" for one, many in zip(sides[beside][0].runs, sides[name][0].runs))
-        lines.append(f"- {clients} clients store {gain:.2f} of what one does beside {readers} readers, of at least 1 that is wanted: {met} (turn by turn {turns})")
+        turns = ", ".join(f"{alone / together:.2f}" for alone, together in zip(one.passed(), many.passed()))
+        lines.append(
+            f"- {clients} clients store {gain:.2f} of what one does beside {readers} readers, of at least 1 that is wanted: {met} "
+            f"(turn by turn {turns}; {many.transfers() / one.transfers():.2f} by the time of batches and publishes alone)"
+        )
     return lines
 
 
@@ -152,6 +160,8 @@ def text(rows, targets):
         "an account, over and over, until all is stored. Ours is a store in a `Mutex`, which a client holds for a batch, the installs of "
         "what was merged, the publish of both and the pick of runs to merge. One more thread merges, and never takes the lock; nor do "
         "readers. The plain ledger lies in a `Mutex` too, which readers take for each query; it publishes nothing and merges nothing. "
-        "Transfers a second are by the time of batches and publishes of the client that took longest, with what they waited for the lock.\n\n"
+        "Transfers a second are by the time of batches and publishes of the client that took longest, with what they waited for the lock. "
+        "What several clients store beside one is told by the clock, from their start to the end of the last: one alone makes its next "
+        "batch while nobody stores, several while another does.\n\n"
         + "\n".join(HEAD + rows) + "\n\nWhat is wanted:\n\n" + "\n".join(targets)
     )

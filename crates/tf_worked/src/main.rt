@@ -8,20 +8,13 @@
 //!   says on standard error NAME.err, and its exit status NAME.status; where the latter two aren't there, nothing and 0.
 #![tactic(auto)]
 
-mod files;
-mod scripts;
-mod storms;
-mod verdict;
-
-use scripts::verdict_of_script;
 use std::io;
 use std::marker::Sync;
 use std::process::ExitCode;
 use std::rt::Files;
 use std::sync::Wait;
 use std::thread::Threads;
-use storms::verdict_of_storm;
-use verdict::Verdict;
+use tf_verdicts::{Verdict, verdict_of_script, verdict_of_storm};
 
 /// How many scripts and storms were run, and how many of what is listed is wrong.
 #[derive(Clone, Copy)]
