@@ -3,3 +3,4 @@ pub mod Notes
 pub mod Noting
 pub mod Refused
 pub mod Idle
+pub mod Crossing

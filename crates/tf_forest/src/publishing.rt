@@ -2,7 +2,7 @@
 ghost use Rattle.std.specs.Prelude.{[], ◌∷◌, ◌≡◌, ◌≢◌, ◌+◌, ◌<◌, ◌≤◌, ◌==◌, length, None, Err, Ok, OnErr, OnOk, IfOk, IfErr, IfNone, IfSome, IsOk, if◌then◌else◌};
 ghost use Rattle.tf_rows.specs.Counts.{AreBounded, IsReady, counted, settled};
 ghost use Rattle.tf_publish.specs.Partly.{CountsParts};
-ghost use Rattle.tf_publish.specs.Tables.{Publishes, by_name, nothing_fresh};
+ghost use Rattle.tf_publish.specs.Tables.{Publishes, Waits, by_name, nothing_fresh};
 ghost use Rattle.tf_forest.specs.Unpublished.{IsUnpublished};
 ghost use Rattle.tf_manifest.specs.Shows.{Shows};
 ghost use Rattle.tf_manifest.specs.View.{ShowsJournal};
@@ -13,6 +13,7 @@ ghost use Rattle.tf_records.specs.declared.refusal.Refusal.{Refusal};
 use crate::Forest;
 use std::alloc::Allocator;
 use std::sync::Wait;
+use tf_manifest::Manifest;
 use tf_publish::{Prepared, Rows, has_room, prepare_rows};
 use tf_records::Refusal;
 use tf_registry::Naming;
@@ -107,11 +108,20 @@ impl<F: SealRows<A> + Drop, A: Allocator + Copy, N: Naming> Forest<Rows<F, A, N>
 }
 
 impl<F: MutableRows + Drop, A: Allocator + Copy, N: Naming> Forest<Rows<F, A, N>, A> {
+    /// The sealed tables. It takes no memory.
+    pub fn tables(&self) -> &Manifest<A, N>
+        ensures { result.now ≡ self.now.sealed.tables }
+    {
+        self.rows.published.manifest()
+    }
+
     /// What always holds of the rows: the mutable tables in front of the sealed ones show the journal, the sealed ones alone do
-    /// where nothing waits, and the counts keep their bounds. It does nothing.
+    /// where nothing waits, how many tables a publish needs and how many entries it seals by what the mutable tables have, and the
+    /// counts keep their bounds. It does nothing.
     pub fn facts_of_rows(&self)
         ensures shows { Shows (content_in (parts_of (by_name self.now.fresh) self.now.sealed.tables)) self.now.journal }
         ensures alone { self.now.waiting ≡ 0 → ShowsJournal self.now.sealed.tables self.now.journal }
+        ensures waits { Waits self.now.fresh self.now.sealed.tables self.now.needed self.now.waiting }
         ensures bounded { AreBounded self.now.sealed }
     {
         // Only a field that is read tells what holds of the whole.

@@ -31,3 +31,4 @@ pub mod BelowFloors
 pub mod KeyWalks
 pub mod HeldKeys
 pub mod Added
+pub mod Crossing

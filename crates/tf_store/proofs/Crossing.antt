@@ -2,25 +2,18 @@
 -- part, as of a whole store no one search ends within its bounds.
 use Rattle.std.proofs.Crossing.{crosses}
 use Rattle.std.proofs.CrossingOver as over
-use Rattle.std.proofs.MapsCrossingOver as maps
 use Rattle.std.specs.declared.alloc.Allocator as Allocator
 use Rattle.std.specs.declared.sync.ledger.Ledger as Ledger
-use Rattle.tf_btree.proofs.node.Node.TheLaws.TheKnot as knot
 use Rattle.tf_registry.specs.declared.naming.Naming as Naming
 use Rattle.tf_history.specs.declared.name.HistoryName as HistoryName
 use Rattle.tf_manifest.specs.contracts.manifest.Manifest as Manifest
 use Rattle.tf_query.specs.contracts.version.Version as Version
 use Rattle.tf_query.specs.contracts.version.Version.TheInside as VersionIn
-use Rattle.tf_rows.specs.contracts.due_set.DueSet as DueSet
-use Rattle.tf_rows.specs.contracts.resident.Resident as Resident
 use Rattle.tf_publish.specs.contracts.counted.CountedTables as CountedTables
 use Rattle.tf_publish.specs.contracts.counted.CountedTables.TheInside as CountedTablesIn
 use Rattle.tf_publish.specs.contracts.published.Published as Published
 use Rattle.tf_publish.specs.contracts.published.Published.TheInside as PublishedIn
 use Rattle.tf_publish.specs.contracts.rows.Rows as Rows
-use Rattle.tf_forest.specs.contracts.forest.Forest as Forest
-use Rattle.tf_forest.specs.contracts.forest.Forest.TheInside as ForestIn
-use Rattle.tf_forest.specs.contracts.note.Notes as Notes
 use Rattle.tf_history.proofs.front.Front.TheSendSync as front
 use Rattle.tf_history.proofs.writer.Writer.TheSendSync as writer
 use Rattle.tf_store.proofs.queue.Queue.TheSendSync as queue
@@ -38,12 +31,6 @@ use denote.Struct.Struct.{Struct}
 use denote.Param.Send.{IsSend, IsSync, Frees, sendable, recorded_send, struct_send, view_send, view_sync}
 
 module _ (A : RattleType) (a : Allocator.Ghosts A.Denot) (A-send : IsSend A) (A-sync : IsSync A) (frees : Frees a a.dealloc_token) where
-  due-send : IsSend (DueSet.the_row A a)
-  due-send = search (crosses, over.crosses, knot.crosses, sendable) depth 60 fits 20000
-
-  resident-send : IsSend (Resident.the_row A a)
-  resident-send = search (crosses, over.crosses, maps.crosses, sendable) depth 60 fits 20000
-
   module _ (N : RattleType) (n : Naming.Ghosts N.Denot) (N-send : IsSend N) (N-sync : IsSync N) where
     tables-send : IsSend (Manifest.the_row A N a n)
     tables-send = manifest-send A a A-send A-sync frees N n N-send N-sync
@@ -128,38 +115,3 @@ module _ (A : RattleType) (a : Allocator.Ghosts A.Denot) (A-send : IsSend A) (A-
 
         pub store-send : IsSend (Store.the_row F C A N f c a n l h)
         store-send = view_send (StoreIn.the_row F C A N f c a n l h) _ _ _ _ store_in-send
-
-  notes-send : IsSend (Notes.the_row A a)
-  notes-send = search (crosses, over.crosses, sendable) depth 60 fits 20000
-
-  forest_in-send : (R : RattleType) (r : _) → IsSend R → IsSend (ForestIn.the_row R A r a)
-  forest_in-send R r R-send =
-      let S = ForestIn.the_type R A r a in
-      recorded_send (Struct (shape S)) S.D S.to S.to_one (struct_send (shape S) (
-        search (R-send, sendable) depth 20,
-        (
-          search (notes-send, crosses, over.crosses, sendable) depth 20,
-          (
-            search (crosses, sendable) depth 20,
-            (
-              search (crosses, sendable) depth 20,
-              (
-                search (crosses, sendable) depth 30,
-                (
-                  search (due-send, crosses, over.crosses, sendable) depth 20,
-                  (
-                    search (resident-send, crosses, over.crosses, sendable) depth 20,
-                    (
-                      search (A-send, sendable) depth 20,
-                      tt,
-                    ),
-                  ),
-                ),
-              ),
-            ),
-          ),
-        ),
-      ))
-
-  pub forest-send : (R : RattleType) (r : _) → IsSend R → IsSend (Forest.the_row R A r a)
-  forest-send R r R-send = view_send (ForestIn.the_row R A r a) _ _ _ _ (forest_in-send R r R-send)

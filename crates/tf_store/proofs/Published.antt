@@ -17,10 +17,8 @@ use Rattle.tf_manifest.specs.Kinds.{kind_of}
 use Rattle.tf_registry.specs.Limit.{Pushed}
 use Rattle.tf_manifest.specs.View.{ShowsJournal, View as Tables, content_in, value_in_kind}
 use Rattle.tf_rows.specs.Counts.{Counted, IsReady, Sealed, counted, settled}
-use Rattle.tf_rows.specs.Parts.{Entries}
-use Rattle.tf_publish.specs.Publish.{entries_waiting, tables_needed}
-use Rattle.tf_publish.specs.Tables.{Publishes, Waits, by_name, listed, nothing_fresh}
-use Rattle.tf_publish.proofs.Tables.{listed_waits, nothing_waits_fresh, nothing_waits_needed}
+use Rattle.tf_publish.specs.Tables.{Publishes, Waits, by_name, nothing_fresh}
+use Rattle.tf_publish.proofs.Tables.{nothing_waits_fresh, nothing_waits_needed}
 use Rattle.tf_forest.specs.Forest.{View}
 use Rattle.tf_forest.specs.Unpublished.{IsUnpublished}
 use Rattle.tf_forest.proofs.Idle.{publishes_nothing}
@@ -54,15 +52,6 @@ unpublished_shows old new lost journal shows r key =
 
 unpublished_limit : (old new : View) → IsUnpublished old new → new.sealed.tables.pushed.limit ≡ old.sealed.tables.pushed.limit
 unpublished_limit old new lost = ap (λ (s : Sealed). s.tables.pushed.limit) lost.loses.is
-
--- what waits in a forest, whose mutable tables have these entries in front of these tables
-pub waits_as : (fresh : Entries) (tables : Tables) (view : View) → listed fresh ≡ view.fresh → tables_needed fresh tables ≡ view.needed → entries_waiting fresh ≡ view.waiting
-    → tables ≡ view.sealed.tables → Waits view.fresh view.sealed.tables view.needed view.waiting
-waits_as fresh tables view is needed waiting sealed =
-    subst (λ (t : Tables). Waits view.fresh t view.needed view.waiting) sealed
-    (subst (λ l. Waits l tables view.needed view.waiting) is
-    (subst (λ n. Waits (listed fresh) tables n view.waiting) needed
-    (subst (λ n. Waits (listed fresh) tables (tables_needed fresh tables) n) waiting (listed_waits fresh tables))))
 
 -- where nothing waits, all of the journal is shown already
 pub all_shown : (old : View) (shown : ℕ) → ((view : Tables) (first second : List Entry) → IsSound first → IsSound second → ShowsJournal view first → ShowsJournal view second → first ≡ second)

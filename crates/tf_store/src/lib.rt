@@ -1,7 +1,9 @@
 //! The store: what lies under the lock, with the shares and receipts that are of it.
 #![tactic(auto)]
 
+mod assembly;
 mod batches;
+mod bring_up;
 mod compaction;
 mod copies;
 mod events;

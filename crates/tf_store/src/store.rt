@@ -4,8 +4,6 @@ ghost use Rattle.std.specs.Prelude.{◌≡◌, ◌+◌, ◌*◌, ◌≤◌, leng
 ghost use Rattle.tf_journal.specs.Journal.{IsUpTo};
 ghost use Rattle.tf_journal.specs.Laws.{IsWithinLimits};
 ghost use Rattle.tf_journal.specs.Lawful.{IsLawful, IsLawfulAt};
-ghost use Rattle.tf_manifest.specs.View.{ShowsJournal};
-ghost use Rattle.tf_publish.specs.Tables.{Waits};
 ghost use Rattle.tf_rows.specs.Counts.{AreBounded};
 ghost use Rattle.tf_store.specs.Book.{book_of, failed_of};
 
@@ -68,16 +66,6 @@ impl<F: StoredForest + Drop, C: StoredCopies + Drop, A: Allocator + Copy, S: Sto
     ghost invariant = { λ s. IsStore (F.seen s.forest) s.tally s.public s.queue.waiting };
 }
 
-/// The sealed tables of a forest. What waits, and how many tables a publish needs, is counted from what its mutable tables have.
-pub(crate) fn sealed_tables<T: MutableRows + Drop, A: Allocator + Copy, S: StoreName>(
-    forest: &Forest<Rows<T, A, S>, A>,
-) -> &Manifest<A, S>
-    ensures tables { result.now ≡ forest.now.sealed.tables }
-    ensures waits { Waits forest.now.fresh forest.now.sealed.tables forest.now.needed forest.now.waiting }
-{
-    forest.rows().published.manifest()
-}
-
 impl<R: AllRows + Drop, C: StoredCopies + Drop, A: Allocator + Copy, S: StoreName> Store<
     Forest<R, A>,
     C,
@@ -117,11 +105,18 @@ impl<T: MutableRows + Drop, C: StoredCopies + Drop, A: Allocator + Copy, S: Stor
     A,
     S,
 > {
+    /// The sealed tables. It takes no memory.
+    pub fn tables(&self) -> &Manifest<A, S>
+        ensures { result.now ≡ self.now.forest.sealed.tables }
+    {
+        self.forest.tables()
+    }
+
     /// How many tables were pushed into the registries. It takes no memory.
     pub fn registered(&self) -> u32
         ensures { result ≡ self.now.forest.sealed.tables.pushed.count }
     {
-        sealed_tables(&self.forest).pushed()
+        self.forest.tables().pushed()
     }
 
     /// How many entries of mutable tables were sealed. It takes no memory.

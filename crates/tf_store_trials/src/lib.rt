@@ -4,6 +4,7 @@
 
 mod alike;
 mod answers;
+mod calls;
 mod seen;
 mod tested;
 

@@ -1,23 +1,20 @@
 //! A store as tests call it. Each function makes one call of it.
 
-use crate::alike::is_store_alike;
 use crate::answers::answers;
+use crate::calls::{counts_of, is_alike, run};
 use std::alloc::{Allocator, Global};
 use std::sync::Wait;
-use tf_forest::Forest;
-use tf_journal::Ledger;
 use tf_manifest::{Merged, Row};
-use tf_publish::Rows;
 use tf_query::Version;
 use tf_readers::{Publishable, Reader};
 use tf_records::Refusal;
 use tf_registry::Uninstalled;
-use tf_rows::{AllRows, MutableRows, SealRows};
+use tf_rows::{MutableRows, SealRows};
 use tf_script::Command;
-use tf_store::{Events, Receipt, Share, Store, StoreName, StoreOf, StoredCopies, VersionCopies};
+use tf_store::{Events, Receipt, Share, StoreName, StoreOf, StoredCopies, VersionCopies};
 use tf_trials::{
-    Act, Acted, Answer, Answered, Call, Counted, Outcome, Plain, ROWS, Tally, Told, Tried, Whom,
-    acted, batch_outcome, done, found, keep, keep_given, last_of, let_go, pulse_outcome,
+    Act, Acted, Answered, Call, Counted, Plain, Tally, Told, Tried, Whom, acted, done, found, keep,
+    keep_given, last_of, let_go,
 };
 
 /// A store that is borrowed, with its shares and readers, the versions that were taken of it and given to readers, and what was
@@ -152,7 +149,7 @@ where
 {
     fn call(&mut self, call: Call<'_>) -> Answered {
         match call {
-            Call::Run(share, command) => Answered::Ran(run_at(
+            Call::Run(share, command) => Answered::Ran(run(
                 self.lists,
                 self.store,
                 &mut self.shares,
@@ -162,45 +159,9 @@ where
             Call::Publish(learner) => Answered::Published(self.publish(learner)),
             Call::Act(act) => Answered::Acted(self.act(act)),
             Call::Ask(whom, plain) => Answered::Asked(self.ask(whom, plain)),
-            Call::Compare(plain, ids) => Answered::Compared(is_store_alike(self.store, plain, ids)),
+            Call::Compare(plain, ids) => Answered::Compared(is_alike(self.store, plain, ids)),
             Call::Count(share) => Answered::Counted(self.counted(share)),
         }
-    }
-}
-
-/// Runs a batch or a pulse with the share at this place, and no other command.
-fn run_at<R: AllRows + Drop, C: StoredCopies + Drop, A: Allocator + Copy, S: StoreName>(
-    lists: Global,
-    store: &mut Store<Forest<R, A>, C, A, S>,
-    shares: &mut Vec<Share<S>, A>,
-    share: usize,
-    command: &Command<Global>,
-) -> Outcome {
-    match shares.get_mut(share) {
-        Some(share) => run(lists, store, share, command),
-        None => Ok(Answer::Nothing),
-    }
-}
-
-/// Runs a batch or a pulse with a share, and no other command.
-fn run<R: AllRows + Drop, C: StoredCopies + Drop, A: Allocator + Copy, S: StoreName>(
-    lists: Global,
-    store: &mut Store<Forest<R, A>, C, A, S>,
-    share: &mut Share<S>,
-    command: &Command<Global>,
-) -> Outcome {
-    match command {
-        Command::Accounts { now, events } => {
-            batch_outcome(lists, store.create_accounts(events.as_slice(), *now, share))
-        }
-        Command::Transfers { now, events } => {
-            batch_outcome(
-                lists,
-                store.create_transfers(events.as_slice(), *now, share),
-            )
-        }
-        Command::Pulse { now, max } => pulse_outcome(store.pulse(*now, *max, share)),
-        _ => Ok(Answer::Nothing),
     }
 }
 
@@ -210,51 +171,6 @@ fn by_share<A: Allocator, S: StoreName>(shares: &Vec<Share<S>, A>, share: usize)
         Some(share) => share.count(),
         None => 0,
     }
-}
-
-/// What a store counts, but for shares and readers.
-fn counts_of<T, C, A, S>(store: &StoreOf<T, C, A, S>) -> Counted
-where
-    T: MutableRows + Drop,
-    C: StoredCopies + Drop,
-    A: Allocator + Copy,
-    S: StoreName,
-{
-    let (entries, rows) = entries_of(store);
-    Counted {
-        facts: store.facts(),
-        registered: store.registered(),
-        rows_sealed: store.rows_sealed(),
-        rows_held: store.rows_held(),
-        references: references_of(rows),
-        ..entries
-    }
-}
-
-/// What of that its entries tell, and its rows. A store's type is compared once for both.
-fn entries_of<R: AllRows + Drop, C: StoredCopies + Drop, A: Allocator + Copy, S: StoreName>(
-    store: &Store<Forest<R, A>, C, A, S>,
-) -> (Counted, &R) {
-    let forest = store.forest();
-    let entries = Counted {
-        book: store.book(),
-        failed: store.failed_book(),
-        clock: forest.clock(),
-        ..Counted::NOTHING
-    };
-    (entries, forest.rows())
-}
-
-/// The tables of each row.
-fn references_of<T: MutableRows + Drop, A: Allocator + Copy, S: StoreName>(
-    rows: &Rows<T, A, S>,
-) -> [u32; ROWS] {
-    let manifest = rows.published.manifest();
-    let mut references = [0; ROWS];
-    for place in 0..ROWS {
-        references[place] = manifest.references(Row::ALL[place]);
-    }
-    references
 }
 
 /// Keeps the version that a reader is given.

@@ -6,7 +6,6 @@
 use std::alloc::Global;
 use std::sync::Wait;
 use tf_manifest::Row;
-use tf_publish::Rows;
 use tf_query::Version;
 use tf_records::Refusal;
 use tf_rows::{MutableRows, SealRows};
@@ -15,18 +14,13 @@ use tf_store_trials::stores;
 use tf_workers::SharedStore;
 
 /// How many tables the row of expiries refers to.
-fn expiry_tables_of<T: MutableRows + Drop, S: StoreName>(rows: &Rows<T, Global, S>) -> u32 {
-    rows.published.manifest().references(Row::Expiry)
-}
-
-/// The same, of a store.
 pub(crate) fn expiry_tables<T, C, S>(shared: &SharedStore<T, C, Global, S>) -> u32
 where
     T: MutableRows + Drop,
     C: StoredCopies + Drop,
     S: StoreName,
 {
-    expiry_tables_of(shared.store.forest().rows())
+    shared.store.tables().references(Row::Expiry)
 }
 
 /// Stores an account, and tells whether it is stored and counted.

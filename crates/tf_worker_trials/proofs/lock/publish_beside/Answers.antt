@@ -1,7 +1,8 @@
 use Rattle.std.proofs.Crossing.{crosses}
 use Rattle.std.proofs.CrossingOver as over
 use denote.Param.Send.{sendable}
-use Rattle.tf_store.proofs.Crossing.{forest-send, rows-send, store-send}
+use Rattle.tf_forest.proofs.Crossing.{forest-send}
+use Rattle.tf_store.proofs.Crossing.{rows-send, store-send}
 use Rattle.tf_store.proofs.OnHeap.{heap-send, heap-sync, heap-frees}
 use Rattle.tf_worker_trials.proofs.lock.publish_beside.Goals as goal
 

@@ -7,7 +7,7 @@ use Rattle.tf_forest.specs.Forest.{View}
 use Rattle.tf_store.specs.Public.{PublicView, all_public}
 use Rattle.tf_store.proofs.Kept.{no_longer}
 use Rattle.tf_store.proofs.Published.{IsPrepared, all_is_seen, all_shown, idle_publish, memory_not_full, refused_as, refused_publish, settled_publish, some_there, whatever_err}
-use Rattle.tf_store.proofs.publishing.bring_up.Goals as goal
+use Rattle.tf_store.proofs.bring_up.bring_up.Goals as goal
 
 pub returns-in_err-prepared-clause-publish : goal.returns-in_err-prepared-clause-publish
 returns-in_err-prepared-clause-publish g c =
@@ -24,7 +24,7 @@ pub returns-in_default-clause-publish : goal.returns-in_default-clause-publish
 returns-in_default-clause-publish g c =
     let old : View = c.args.forest.now in
     let none : old.waiting ≡ 0 = rw c.in_default.is at c.in_ok-prepared.ensures.none in
-    idle_publish old c.prepare.new.self None c.sealed_tables.ensures.waits (record { none = none; same = c.prepare.ensures.still none }) (c.facts_of_rows.ensures.alone none) c.in_ok-prepared.ensures.fits
+    idle_publish old c.prepare.new.self None c.facts_of_rows.ensures.waits (record { none = none; same = c.prepare.ensures.still none }) (c.facts_of_rows.ensures.alone none) c.in_ok-prepared.ensures.fits
 
 pub returns-in_default-clause-all : goal.returns-in_default-clause-all
 returns-in_default-clause-all g c =

@@ -1,4 +1,4 @@
-use Rattle.tf_store.proofs.opening.over_rows.Goals as goal
+use Rattle.tf_store.proofs.assembly.over_rows.Goals as goal
 
 pub over_made-requires-clause-empty : goal.over_made-requires-clause-empty
 over_made-requires-clause-empty g c = c.new-rows.ensures.empty

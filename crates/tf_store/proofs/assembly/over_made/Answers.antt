@@ -1,6 +1,6 @@
 use Rattle.std.proofs.Common.{◌∙◌, refl}
 use Rattle.tf_store.proofs.Kept.{store_new}
-use Rattle.tf_store.proofs.opening.over_made.Goals as goal
+use Rattle.tf_store.proofs.assembly.over_made.Goals as goal
 
 pub empty-requires-clause-copies : goal.empty-requires-clause-copies
 empty-requires-clause-copies g c = rw c.in-Ok.ensures.first at c.requires.shown
