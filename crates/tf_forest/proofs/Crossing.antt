@@ -7,6 +7,7 @@ use Rattle.tf_rows.proofs.Crossing.{due-send, resident-send}
 use Rattle.tf_forest.specs.contracts.forest.Forest as Forest
 use Rattle.tf_forest.specs.contracts.forest.Forest.TheInside as ForestIn
 use Rattle.tf_forest.specs.contracts.note.Notes as Notes
+use Rattle.tf_forest.specs.contracts.used_ids.UsedIds as UsedIds
 use denote.RattleType.{RattleType}
 use denote.Struct.Declared.{shape}
 use denote.Struct.Struct.{Struct}
@@ -15,6 +16,9 @@ use denote.Param.Send.{IsSend, IsSync, Frees, sendable, recorded_send, struct_se
 module _ (A : RattleType) (a : Allocator.Ghosts A.Denot) (A-send : IsSend A) (A-sync : IsSync A) (frees : Frees a a.dealloc_token) where
   notes-send : IsSend (Notes.the_row A a)
   notes-send = search (crosses, over.crosses, sendable) depth 60 fits 20000
+
+  used-send : IsSend (UsedIds.the_row A a)
+  used-send = search (crosses, over.crosses, sendable) depth 60 fits 20000
 
   forest_in-send : (R : RattleType) (r : _) → IsSend R → IsSend (ForestIn.the_row R A r a)
   forest_in-send R r R-send =
@@ -34,8 +38,11 @@ module _ (A : RattleType) (a : Allocator.Ghosts A.Denot) (A-send : IsSend A) (A-
                   (
                     search (resident-send, crosses, over.crosses, sendable) depth 20,
                     (
-                      search (A-send, sendable) depth 20,
-                      tt,
+                      search (used-send, crosses, over.crosses, sendable) depth 20,
+                      (
+                        search (A-send, sendable) depth 20,
+                        tt,
+                      ),
                     ),
                   ),
                 ),

@@ -4,3 +4,4 @@ pub mod Noting
 pub mod Refused
 pub mod Idle
 pub mod Crossing
+pub mod UsedIds

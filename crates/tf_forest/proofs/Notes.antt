@@ -20,6 +20,7 @@ use Rattle.tf_rows.specs.Changes.{CanStepAll, all_stepped}
 use Rattle.tf_rows.specs.Edits.{party_of}
 use Rattle.tf_rows.specs.DueSet.{AreHeld, Keys, StayHeld}
 use Rattle.tf_rows.specs.Floors.{HaveFloors}
+use Rattle.tf_forest.specs.UsedIds.{AreKnown}
 use Rattle.tf_forest.specs.Forest.{AreRight, IsCut, IsForest, Noted, TakesBack, all_undone}
 use Rattle.tf_rows.specs.Spelled.{ShowTheirJournal, journal_in}
 use Rattle.tf_rows.specs.Nest.{AreEmpty, LogsHaveValues}
@@ -61,8 +62,8 @@ pub journal_length : (journal : List Entry) → IsJournal journal → length jou
 journal_length journal is = let long = rising_length 0 last_timestamp journal (omega arith) is.rising is.in_range in omega arith
 
 -- what is kept and the notes together are the journal's length
-pub noted_length : (has : Row → Bool) (fits : Row → Value → Bool) (takes_any : Row → Type 0) (rows : Parts) (notes : List Noted) (kept clock n : ℕ) (lows : Floors) (due : Keys) (held : List (ℕ × Party)) → IsForest has fits takes_any rows notes kept clock lows due held → n ≡ length notes → kept + n ≤ last_timestamp
-noted_length has fits takes_any rows notes kept clock n lows due held is own =
+pub noted_length : (has : Row → Bool) (fits : Row → Value → Bool) (takes_any : Row → Type 0) (rows : Parts) (notes : List Noted) (kept clock n : ℕ) (lows : Floors) (due : Keys) (held : List (ℕ × Party)) (known : List (List ℕ)) → IsForest has fits takes_any rows notes kept clock lows due held known → n ≡ length notes → kept + n ≤ last_timestamp
+noted_length has fits takes_any rows notes kept clock n lows due held known is own =
     let long = journal_length (journal_in rows) is.shows.sound.is_journal in
     let count = is.count in
     omega arith
@@ -80,7 +81,7 @@ module _ (has : Row → Bool) (fits : Row → Value → Bool) (takes_any : Row �
     pub back : all_stepped note.steps new ≡ old
     pub accounts : (id : ℕ) → accounts_before note.formers (party_of (journal_in old ++ e ∷ [])) id ≡ party_of (journal_in old) id
 
-  module _ (spell : Spell) (old new : Parts) (notes : List Noted) (note : Noted) (kept clock : ℕ) (lows : Floors) (due : Keys) (held : List (ℕ × Party)) (e : Entry) (was : IsForest has fits takes_any old notes kept clock lows due held) (grows : CanGrow (journal_in old) e) (is : IsGrown old new e note) where
+  module _ (spell : Spell) (old new : Parts) (notes : List Noted) (note : Noted) (kept clock : ℕ) (lows : Floors) (due : Keys) (held : List (ℕ × Party)) (known : List (List ℕ)) (e : Entry) (was : IsForest has fits takes_any old notes kept clock lows due held known) (grows : CanGrow (journal_in old) e) (is : IsGrown old new e note) where
     now_sound : IsSound (journal_in old ++ e ∷ [])
     now_sound = sound_push (journal_in old) e was.shows.sound grows
 
@@ -98,8 +99,8 @@ module _ (has : Row → Bool) (fits : Row → Value → Bool) (takes_any : Row �
           ∙ ap (λ (rows : Parts). party_of (journal_in rows) id) (sym is.back);
     }
 
-    pub grown_forest : (after : Floors) (keys : Keys) (now : List (ℕ × Party)) → HaveFloors after (journal_in old ++ e ∷ []) kept → StayHeld keys (journal_in old ++ e ∷ []) kept → AreAmong (party_of (journal_in old ++ e ∷ [])) now → IsForest has fits takes_any new (notes ++ note ∷ []) kept clock after keys now
-    grown_forest after keys now have stay right = record {
+    pub grown_forest : (after : Floors) (keys : Keys) (now : List (ℕ × Party)) (more : List (List ℕ)) → HaveFloors after (journal_in old ++ e ∷ []) kept → StayHeld keys (journal_in old ++ e ∷ []) kept → AreAmong (party_of (journal_in old ++ e ∷ [])) now → AreKnown more (journal_in old ++ e ∷ []) → IsForest has fits takes_any new (notes ++ note ∷ []) kept clock after keys now more
+    grown_forest after keys now more have stay right used = record {
       shows = record {
         sound = subst IsSound (sym grown_journal) now_sound;
         shows = subst (Shows (content_in new)) (sym grown_journal) is.shows;
@@ -114,6 +115,7 @@ module _ (has : Row → Bool) (fits : Row → Value → Bool) (takes_any : Row �
       floors = subst (λ (j : List Entry). HaveFloors after j kept) (sym grown_journal) have;
       due = subst (λ (j : List Entry). StayHeld keys j kept) (sym grown_journal) stay;
       resident = subst (λ (j : List Entry). AreAmong (party_of j) now) (sym grown_journal) right;
+      used = subst (AreKnown more) (sym grown_journal) used;
       up_to =
           let count = was.count in
           subst (IsUpTo clock) (sym (ap (take kept) grown_journal ∙ take-append-le kept (journal_in old) (e ∷ []) (omega arith))) was.up_to;
@@ -212,8 +214,8 @@ no_tombstone rows empty r log key =
 pub empty_journal : Spell → (rows : Parts) → AreEmpty rows → journal_in rows ≡ []
 empty_journal spell rows empty = spell rows [] sound_nothing (nothing_shown rows empty)
 
-pub empty_forest : (has : Row → Bool) (fits : Row → Value → Bool) (takes_any : Row → Type 0) → Spell → (rows : Parts) → AreEmpty rows → (lows : Floors) → HaveFloors lows [] 0 → IsForest has fits takes_any rows [] 0 0 lows [] []
-empty_forest has fits takes_any spell rows empty lows have = record {
+pub empty_forest : (has : Row → Bool) (fits : Row → Value → Bool) (takes_any : Row → Type 0) → Spell → (rows : Parts) → AreEmpty rows → (lows : Floors) → HaveFloors lows [] 0 → (known : List (List ℕ)) → AreKnown known [] → IsForest has fits takes_any rows [] 0 0 lows [] [] known
+empty_forest has fits takes_any spell rows empty lows have known none = record {
   shows = record {
     sound = subst IsSound (sym (empty_journal spell rows empty)) sound_nothing;
     shows = subst (Shows (content_in rows)) (sym (empty_journal spell rows empty)) (nothing_shown rows empty);
@@ -224,6 +226,7 @@ empty_forest has fits takes_any spell rows empty lows have = record {
   floors = subst (λ (j : List Entry). HaveFloors lows j 0) (sym (empty_journal spell rows empty)) have;
   due = subst (λ (j : List Entry). StayHeld [] j 0) (sym (empty_journal spell rows empty)) (λ n more. subst (AreHeld []) (sym (take_all n [] (omega arith))) (λ key free. refl));
   resident = λ id party there. absurd (none-some party there);
+  used = subst (AreKnown known) (sym (empty_journal spell rows empty)) none;
   up_to = subst (λ (j : List Entry). IsUpTo 0 (take 0 j)) (sym (empty_journal spell rows empty)) (All-nil (λ (e : Entry). timestamp_of e ≤ 0));
 }
 
@@ -239,15 +242,15 @@ no_notes [] none = refl
 no_notes (note ∷ notes) none = absurd (omega arith)
 
 -- a forest that keeps all its entries has no notes
-pub all_kept : (has : Row → Bool) (fits : Row → Value → Bool) (takes_any : Row → Type 0) (rows : Parts) (notes : List Noted) (kept clock : ℕ) (lows : Floors) (due : Keys) (held : List (ℕ × Party)) → IsForest has fits takes_any rows notes kept clock lows due held → kept ≡ length (journal_in rows) → notes ≡ []
-all_kept has fits takes_any rows notes kept clock lows due held was all =
+pub all_kept : (has : Row → Bool) (fits : Row → Value → Bool) (takes_any : Row → Type 0) (rows : Parts) (notes : List Noted) (kept clock : ℕ) (lows : Floors) (due : Keys) (held : List (ℕ × Party)) (known : List (List ℕ)) → IsForest has fits takes_any rows notes kept clock lows due held known → kept ≡ length (journal_in rows) → notes ≡ []
+all_kept has fits takes_any rows notes kept clock lows due held known was all =
     let count = was.count in
     no_notes notes (omega arith)
 
 -- a forest that keeps all its entries, over such rows
-pub same_forest : (has : Row → Bool) (fits : Row → Value → Bool) (takes_any : Row → Type 0) → Spell → (old new : Parts) (notes : List Noted) (kept clock : ℕ) (lows : Floors) (due : Keys) (held : List (ℕ × Party)) → ((r : Row) (key : Key) → value_of_part (new r) key ≡ value_of_part (old r) key) → LogsHaveValues new
-    → IsForest has fits takes_any old notes kept clock lows due held → kept ≡ length (journal_in old) → IsForest has fits takes_any new notes kept clock lows due held
-same_forest has fits takes_any spell old new notes kept clock lows due held same values was all =
+pub same_forest : (has : Row → Bool) (fits : Row → Value → Bool) (takes_any : Row → Type 0) → Spell → (old new : Parts) (notes : List Noted) (kept clock : ℕ) (lows : Floors) (due : Keys) (held : List (ℕ × Party)) (known : List (List ℕ)) → ((r : Row) (key : Key) → value_of_part (new r) key ≡ value_of_part (old r) key) → LogsHaveValues new
+    → IsForest has fits takes_any old notes kept clock lows due held known → kept ≡ length (journal_in old) → IsForest has fits takes_any new notes kept clock lows due held known
+same_forest has fits takes_any spell old new notes kept clock lows due held known same values was all =
     let journal = same_journal spell old new same was.shows in
     let count = was.count in
     record {
@@ -261,18 +264,20 @@ same_forest has fits takes_any spell old new notes kept clock lows due held same
       floors = subst (λ (j : List Entry). HaveFloors lows j kept) (sym journal) was.floors;
       due = subst (λ (j : List Entry). StayHeld due j kept) (sym journal) was.due;
       resident = subst (λ (j : List Entry). AreAmong (party_of j) held) (sym journal) was.resident;
+      used = subst (AreKnown known) (sym journal) was.used;
       up_to = subst (λ (j : List Entry). IsUpTo clock (take kept j)) (sym journal) was.up_to;
     }
 
--- a forest that holds other keys of expiry, those of before among them
-pub holding_more : (has : Row → Bool) (fits : Row → Value → Bool) (takes_any : Row → Type 0) (rows : Parts) (notes : List Noted) (kept clock : ℕ) (lows : Floors) (keys now : Keys) (held : List (ℕ × Party)) → ((journal : List Entry) → AreHeld keys journal → AreHeld now journal)
-    → IsForest has fits takes_any rows notes kept clock lows keys held → IsForest has fits takes_any rows notes kept clock lows now held
-holding_more has fits takes_any rows notes kept clock lows keys now held stays was = record {
+-- a forest that holds other keys of expiry and knows other ids, those of before among them
+pub holding_more : (has : Row → Bool) (fits : Row → Value → Bool) (takes_any : Row → Type 0) (rows : Parts) (notes : List Noted) (kept clock : ℕ) (lows : Floors) (keys now : Keys) (held : List (ℕ × Party)) (known more : List (List ℕ)) → ((journal : List Entry) → AreHeld keys journal → AreHeld now journal)
+    → ((journal : List Entry) → AreKnown known journal → AreKnown more journal) → IsForest has fits takes_any rows notes kept clock lows keys held known → IsForest has fits takes_any rows notes kept clock lows now held more
+holding_more has fits takes_any rows notes kept clock lows keys now held known more stays used was = record {
   shows = was.shows;
   right = was.right;
   count = was.count;
   floors = was.floors;
-  due = λ n more. stays (take n (journal_in rows)) (was.due n more);
+  due = λ n later. stays (take n (journal_in rows)) (was.due n later);
   resident = was.resident;
+  used = used (journal_in rows) was.used;
   up_to = was.up_to;
 }

@@ -18,6 +18,7 @@ use Rattle.tf_rows.specs.Parts.{Parts, fresh_in}
 use Rattle.tf_rows.specs.Resident.{AreAmong, accounts_before}
 use Rattle.tf_rows.specs.Spelled.{ShowTheirJournal, journal_in}
 use Rattle.tf_publish.specs.Tables.{listed}
+use Rattle.tf_forest.specs.UsedIds.{AreKnown}
 
 -- what takes an entry back: the steps in the rows, and the accounts that it changed as they were
 pub record Noted : Type 0 where
@@ -50,15 +51,16 @@ module _ (has : Row → Bool) (fits : Row → Value → Bool) (takes_any : Row �
   AreRight (note ∷ notes) rows = AreRight notes rows × TakesBack note (all_undone notes rows)
 
   -- what always holds of a forest: its rows show their journal, a note takes back each entry that isn't kept, no transfer
-  -- can expire below its floors or without being held, the accounts that it holds are right, and no entry that is kept is younger
-  -- than its clock
-  pub record IsForest (rows : Parts) (notes : List Noted) (kept clock : ℕ) (lows : Floors) (keys : Keys) (held : List (ℕ × Party)) : Type 0 where
+  -- can expire below its floors or without being held, the accounts that it holds are right, it knows each id that is in use, and no
+  -- entry that is kept is younger than its clock
+  pub record IsForest (rows : Parts) (notes : List Noted) (kept clock : ℕ) (lows : Floors) (keys : Keys) (held : List (ℕ × Party)) (known : List (List ℕ)) : Type 0 where
     pub shows : ShowTheirJournal rows
     pub right : AreRight notes rows
     pub count : length (journal_in rows) ≡ kept + length notes
     pub floors : HaveFloors lows (journal_in rows) kept
     pub due : StayHeld keys (journal_in rows) kept
     pub resident : AreAmong (party_of (journal_in rows)) held
+    pub used : AreKnown known (journal_in rows)
     pub up_to : IsUpTo clock (take kept (journal_in rows))
 
 -- a journal without so many of its last entries

@@ -1,3 +1,4 @@
 pub mod Forest
 pub mod Notes
 pub mod Unpublished
+pub mod UsedIds

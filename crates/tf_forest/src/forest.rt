@@ -16,6 +16,7 @@ ghost use Rattle.tf_journal.specs.Lookup.{id_use_of, shown_with_id, transfer_wit
 ghost use Rattle.tf_journal.specs.Status.{status_at};
 
 use crate::note::Notes;
+use crate::used_ids::UsedIds;
 use std::alloc::Allocator;
 use std::marker::Model;
 use tf_journal::{Entry, IdUse, Mark, Status, ids_are_unique, journals_are_within_limits};
@@ -43,6 +44,8 @@ pub struct Forest<S: AllRows + Drop, A: Allocator + Copy> {
     pub(crate) due: DueSet<A>,
     /// The accounts in use, which are looked up here first.
     pub(crate) resident: Resident<A>,
+    /// The ids that transfers have, of which the rows are asked only where it knows one.
+    pub(crate) used: UsedIds<A>,
     pub(crate) alloc: A,
 }
 
@@ -59,7 +62,7 @@ impl<S: AllRows + Drop, A: Allocator + Copy> Model for Forest<S, A> {
 
     ghost view = { λ f. record { journal = journal_in (S.parts f.rows); sealed = S.sealed f.rows; fresh = listed (fresh_in (S.parts f.rows)); marks = fresh_at_marks f.notes (S.parts f.rows); needed = tables_needed (fresh_in (S.parts f.rows)) (S.sealed f.rows).tables; waiting = entries_waiting (fresh_in (S.parts f.rows)); clock = f.clock; kept = f.kept } };
 
-    ghost invariant = { λ f. IsForest S.has_row S.fits S.takes_any (S.parts f.rows) f.notes f.kept f.clock f.floors f.due f.resident };
+    ghost invariant = { λ f. IsForest S.has_row S.fits S.takes_any (S.parts f.rows) f.notes f.kept f.clock f.floors f.due f.resident f.used };
 }
 
 impl<S: AllRows + Drop, A: Allocator + Copy> Forest<S, A> {
@@ -84,6 +87,7 @@ impl<S: AllRows + Drop, A: Allocator + Copy> Forest<S, A> {
             floors: Floors::new(),
             due: DueSet::new(alloc),
             resident: Resident::new(alloc),
+            used: UsedIds::new(alloc),
             alloc,
         }
     }
@@ -148,11 +152,15 @@ impl<S: AllRows + Drop, A: Allocator + Copy> Forest<S, A> {
         transfer(&self.rows, id)
     }
 
-    /// What a transfer id is used for: by one look-up in a row, and one more where it is that of a stored transfer.
+    /// What a transfer id is used for: by a few words of memory where it is free, and else, but for one free id in two hundred,
+    /// by one look-up in a row, and one more where it is that of a stored transfer.
     pub fn id_use(&self, id: u128) -> IdUse
         ensures { result ≡ id_use_of self.now.journal id }
     {
         rows_answer_look_ups();
+        if self.used.is_unused(id) {
+            return IdUse::Free;
+        }
         id_use(&self.rows, id)
     }
 
@@ -161,8 +169,8 @@ impl<S: AllRows + Drop, A: Allocator + Copy> Forest<S, A> {
         ensures { result ≡ is_failed self.now.journal id }
     {
         ids_are_unique();
-        rows_answer_look_ups();
-        match id_use(self.rows(), id) {
+        self.facts();
+        match self.id_use(id) {
             IdUse::Failed => true,
             IdUse::Free | IdUse::Stored(_) => false,
         }
@@ -191,6 +199,8 @@ impl<S: AllRows + Drop, A: Allocator + Copy> Forest<S, A> {
     /// Stores a transfer, which the journal admits, by what is looked up for it: for each of its accounts one look-up among
     /// those in use, or three more in rows, and two in rows for the pending transfer that it posts or voids. Both accounts
     /// are in use afterwards. A pending transfer that can expire takes one search of a tree more. `NoMemory` leaves all as it was.
+    ///
+    /// Each time that as many ids were used as all the times before together, a filter of them takes twice its memory.
     pub fn add_transfer(&mut self, transfer: Transfer) -> Result<(), Refusal>
         requires { CanGrow self.old.journal (Entry.Transfer transfer) }
         ensures addition { IsAddition (λ f. f.journal) (λ f. f.clock) (λ f. f.kept) self.old self.new (Entry.Transfer transfer) result }
@@ -243,6 +253,7 @@ impl<S: AllRows + Drop, A: Allocator + Copy> Forest<S, A> {
         rows_answer_look_ups();
         let found = look_up(&self.rows, &self.resident, entry);
         self.due.admit(entry, &found.settled)?;
+        self.used.admit(entry)?;
         let formers = formers_of(&found, entry);
         match self.notes.add(&mut self.rows, &found, formers, entry) {
             Ok(()) => {}

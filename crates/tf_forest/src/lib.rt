@@ -7,5 +7,6 @@ mod forest;
 mod ledger;
 mod note;
 mod publishing;
+mod used_ids;
 
 pub use forest::Forest;

@@ -20,7 +20,6 @@ use Rattle.tf_manifest.specs.declared.kind.UnitRow.{UnitRow}
 use Rattle.tf_manifest.specs.declared.kind.UnitRow.TheVariants as unit
 use Rattle.tf_manifest.specs.declared.kinds.Stored.{Stored}
 use Rattle.tf_manifest.specs.declared.row.Row.{Row}
-use Rattle.tf_manifest.specs.declared.row.Row.TheVariants as row
 use Rattle.tf_manifest.specs.declared.value.IdStamp.{IdStamp}
 use Rattle.tf_manifest.specs.declared.value.State.{State}
 use Rattle.tf_manifest.specs.declared.value.Value.{Value}
@@ -37,7 +36,7 @@ use Rattle.tf_rows.specs.Parts.{GivesBack, PutsEntry, seen_rows}
 use Rattle.tf_rows.specs.SealedRow.{IsSealedOf, entries_of_sealed, kind_of_sealed}
 use Rattle.tf_rows.specs.declared.sealed_row.SealedRow.{SealedRow}
 use Rattle.tf_registry.specs.Row.{is_nil}
-use Rattle.tf_rows.proofs.Apart.{apart_by, set_elsewhere, set_here, stamp_apart, unit_apart}
+use Rattle.tf_rows.proofs.Apart.{apart_by, row_back, row_by, set_elsewhere, set_here, stamp_apart, unit_apart}
 use Rattle.tf_rows.proofs.Parts.{none-seen}
 
 -- the same with other entries in one row
@@ -143,37 +142,10 @@ module _ (accounts : List Keys) (transfers : Objects) (expiry : Keys) (many : le
 
 -- whether the mutable table of a row of a kind takes an entry for any key
 abbrev pub tree_by : Kind → Bool
-tree_by (kind.Stamp stamp.AccountIds) = true
-tree_by kind.Id = true
-tree_by (kind.Unit unit.Expiry) = true
-tree_by kind.State = true
-tree_by kind.Status = true
-tree_by _ = false
+tree_by k = is_tree (row_by k)
 
 tree_is : (r : Row) → is_tree r ≡ tree_by (kind_of r)
-tree_is = elim [
-  | row.AccountObjects ↦ refl
-  | row.AccountIds ↦ refl
-  | row.AccountUserData128 ↦ refl
-  | row.AccountUserData64 ↦ refl
-  | row.AccountUserData32 ↦ refl
-  | row.AccountLedger ↦ refl
-  | row.AccountCode ↦ refl
-  | row.AccountSums ↦ refl
-  | row.TransferObjects ↦ refl
-  | row.TransferIds ↦ refl
-  | row.TransferDebit ↦ refl
-  | row.TransferCredit ↦ refl
-  | row.TransferUserData128 ↦ refl
-  | row.TransferUserData64 ↦ refl
-  | row.TransferUserData32 ↦ refl
-  | row.TransferLedger ↦ refl
-  | row.TransferCode ↦ refl
-  | row.PendingStatus ↦ refl
-  | row.Expiry ↦ refl
-  | row.ExpiryEntries ↦ refl
-  | row.History ↦ refl
-]
+tree_is r = ap is_tree (sym (row_back r))
 
 -- no index of accounts has a tree
 pub index_is_log : (u : UnitRow) (at : ℕ) → at ≡ unit_index u → at < 5 → tree_by (kind.Unit u) ≡ false
@@ -182,40 +154,10 @@ index_is_log _ at e h = refl
 
 -- whether a row of a kind has something of transfers' records
 abbrev of_record_by : Kind → Bool
-of_record_by kind.Transfer = true
-of_record_by (kind.Unit unit.TransferDebit) = true
-of_record_by (kind.Unit unit.TransferCredit) = true
-of_record_by (kind.Unit unit.TransferUserData128) = true
-of_record_by (kind.Unit unit.TransferUserData64) = true
-of_record_by (kind.Unit unit.TransferUserData32) = true
-of_record_by (kind.Unit unit.TransferLedger) = true
-of_record_by (kind.Unit unit.TransferCode) = true
-of_record_by _ = false
+of_record_by k = is_of_record (row_by k)
 
 of_record_is : (r : Row) → is_of_record r ≡ of_record_by (kind_of r)
-of_record_is = elim [
-  | row.AccountObjects ↦ refl
-  | row.AccountIds ↦ refl
-  | row.AccountUserData128 ↦ refl
-  | row.AccountUserData64 ↦ refl
-  | row.AccountUserData32 ↦ refl
-  | row.AccountLedger ↦ refl
-  | row.AccountCode ↦ refl
-  | row.AccountSums ↦ refl
-  | row.TransferObjects ↦ refl
-  | row.TransferIds ↦ refl
-  | row.TransferDebit ↦ refl
-  | row.TransferCredit ↦ refl
-  | row.TransferUserData128 ↦ refl
-  | row.TransferUserData64 ↦ refl
-  | row.TransferUserData32 ↦ refl
-  | row.TransferLedger ↦ refl
-  | row.TransferCode ↦ refl
-  | row.PendingStatus ↦ refl
-  | row.Expiry ↦ refl
-  | row.ExpiryEntries ↦ refl
-  | row.History ↦ refl
-]
+of_record_is r = ap is_of_record (sym (row_back r))
 
 not_single : (r : Row) (k : Kind) → k ≡ kind_of r → of_record_by k ≡ true → IsSingle r → ⊥
 not_single r k of has single = false≢true (sym single ∙ of_record_is r ∙ ap of_record_by (sym of) ∙ has)

@@ -26,7 +26,7 @@ module _ {X : Type 0} where
   set_elsewhere (y ∷ xs) (suc at) (suc other) x h = set_elsewhere xs at other x (λ e. h (ap suc e))
 
 -- the row of a kind
-abbrev row_by : Kind → Row
+abbrev pub row_by : Kind → Row
 row_by (kind.Stamp stamp.AccountIds) = row.AccountIds
 row_by (kind.Stamp stamp.ExpiryEntries) = row.ExpiryEntries
 row_by kind.Account = row.AccountObjects
@@ -49,7 +49,7 @@ row_by kind.State = row.AccountSums
 row_by kind.Sums = row.History
 row_by kind.Status = row.PendingStatus
 
-row_back : (r : Row) → row_by (kind_of r) ≡ r
+pub row_back : (r : Row) → row_by (kind_of r) ≡ r
 row_back = elim [
   | row.AccountObjects ↦ refl
   | row.AccountIds ↦ refl

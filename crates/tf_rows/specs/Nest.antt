@@ -12,7 +12,7 @@ use Rattle.tf_manifest.specs.Kinds.{kind_of}
 use Rattle.tf_rows.specs.Held.{account_held, id_held, stamp_held, state_held, status_held, sums_held, transfer_held, unit_held}
 use Rattle.tf_rows.specs.Parts.{Parts, no_part}
 
--- whether a row's mutable table is a tree, which takes an entry for any key. The others are logs, which take new keys
+-- whether a row's mutable table is a tree or a map, which takes an entry for any key. The others are logs, which take new keys
 abbrev pub is_tree : Row → Bool
 is_tree row.AccountIds = true
 is_tree row.AccountSums = true

@@ -1,6 +1,6 @@
 //! When the changes of an entry can be made in all rows.
 //!
-//! The mutable table of a row is a tree, which takes an entry for any key, or a log, which takes new keys alone. What an
+//! The mutable table of a row is a tree or a map, which takes an entry for any key, or a log, which takes new keys alone. What an
 //! entry changes in the rows of logs are values at keys of its own, so they are new as long as no log has a tombstone.
 
 ghost use Rattle.std.specs.Prelude.{List};

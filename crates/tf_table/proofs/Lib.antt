@@ -5,6 +5,7 @@ pub mod Determined
 pub mod Filters
 pub mod First
 pub mod Found
+pub mod Growing
 pub mod Keys
 pub mod LaidOut
 pub mod Least

@@ -3,6 +3,7 @@ pub mod Entries
 pub mod Column
 pub mod Span
 pub mod Filter
+pub mod GrowingFilter
 pub mod Rows
 pub mod Content
 pub mod First

@@ -18,7 +18,7 @@ invariant_of-self g c =
     let new : Parts = parts_of fresh c.install.new.self.tables in
     let all : c.self.inside.kept ≡ length (journal_in old) =
     ap (λ (v : View). v.kept) c.self.view_is ∙ c.requires ∙ ap (λ (v : View). length v.journal) (sym c.self.view_is) in
-    same_forest has_each fits_row IsTree c.rows_spell_the_journal_they_show.ensures old new c.self.inside.notes c.self.inside.kept c.self.inside.clock c.self.inside.floors c.self.inside.due c.self.inside.resident
+    same_forest has_each fits_row IsTree c.rows_spell_the_journal_they_show.ensures old new c.self.inside.notes c.self.inside.kept c.self.inside.clock c.self.inside.floors c.self.inside.due c.self.inside.resident c.self.inside.used
     (same_in_front fresh c.self.inside.rows.published.tables c.install.new.self.tables c.install.ensures.content) c.self.invariant.shows.values c.self.invariant all
 
 pub returns-clause-journal : goal.returns-clause-journal

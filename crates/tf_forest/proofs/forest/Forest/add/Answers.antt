@@ -34,16 +34,21 @@ add-requires-clause-can g c =
 pub invariant_of-self : goal.invariant_of-self
 invariant_of-self g c =
     holding_more g.S.RowSet.has_row g.S.RowSet.fits g.S.RowSet.takes_any (g.S.RowSet.parts c.self.inside.rows) c.self.inside.notes c.self.inside.kept c.self.inside.clock c.self.inside.floors
-    c.self.inside.due c.admit.new.self c.self.inside.resident c.admit.ensures.stays c.self.invariant
+    c.self.inside.due c.admit.new.self c.self.inside.resident c.self.inside.used c.self.inside.used c.admit.ensures.stays (λ journal known. known) c.self.invariant
+
+pub invariant_of-self-in_err-admit-2 : goal.invariant_of-self-in_err-admit-2
+invariant_of-self-in_err-admit-2 g c =
+    holding_more g.S.RowSet.has_row g.S.RowSet.fits g.S.RowSet.takes_any (g.S.RowSet.parts c.self.inside.rows) c.self.inside.notes c.self.inside.kept c.self.inside.clock c.self.inside.floors
+    c.self.inside.due c.admit.new.self c.self.inside.resident c.self.inside.used c.admit-2.new.self c.admit.ensures.stays c.admit-2.ensures.stays c.self.invariant
 
 pub invariant_of-self-in-Err : goal.invariant_of-self-in-Err
 invariant_of-self-in-Err g c =
     let Is : Parts → List Noted → Type 0
-    = λ rows notes. IsForest g.S.RowSet.has_row g.S.RowSet.fits g.S.RowSet.takes_any rows notes c.self.inside.kept c.self.inside.clock c.self.inside.floors c.admit.new.self c.self.inside.resident in
+    = λ rows notes. IsForest g.S.RowSet.has_row g.S.RowSet.fits g.S.RowSet.takes_any rows notes c.self.inside.kept c.self.inside.clock c.self.inside.floors c.admit.new.self c.self.inside.resident c.admit-2.new.self in
     subst (λ (rows : Parts). Is rows c.add.new.self) (sym c.in-Err.ensures.err.0)
     (subst (Is (g.S.RowSet.parts c.self.inside.rows)) (sym c.in-Err.ensures.err.1)
     (holding_more g.S.RowSet.has_row g.S.RowSet.fits g.S.RowSet.takes_any (g.S.RowSet.parts c.self.inside.rows) c.self.inside.notes c.self.inside.kept c.self.inside.clock c.self.inside.floors
-    c.self.inside.due c.admit.new.self c.self.inside.resident c.admit.ensures.stays c.self.invariant))
+    c.self.inside.due c.admit.new.self c.self.inside.resident c.self.inside.used c.admit-2.new.self c.admit.ensures.stays c.admit-2.ensures.stays c.self.invariant))
 
 pub invariant_of-self-2 : goal.invariant_of-self-2
 invariant_of-self-2 g c =
@@ -61,11 +66,12 @@ invariant_of-self-2 g c =
       back = c.in-Ok.ensures.noted.back;
       accounts = c.formers_of-formers.ensures.back (journal_in old) c.self.invariant.shows.sound grows is;
     } in
-    subst (λ (ns : List Noted). IsForest g.S.RowSet.has_row g.S.RowSet.fits g.S.RowSet.takes_any new ns c.self.inside.kept c.self.inside.clock c.after-self-inside.result c.admit.new.self c.after.new.self) (sym c.in-Ok.ensures.noted.is)
-    (grown_forest g.S.RowSet.has_row g.S.RowSet.fits g.S.RowSet.takes_any c.rows_spell_the_journal_they_show.ensures old new c.self.inside.notes note c.self.inside.kept c.self.inside.clock c.self.inside.floors c.self.inside.due c.self.inside.resident e c.self.invariant grows grown
-    c.after-self-inside.result c.admit.new.self c.after.new.self (c.after-self-inside.ensures.holds (journal_in old) c.self.inside.kept c.self.invariant.shows.sound grows is c.self.invariant.floors)
+    subst (λ (ns : List Noted). IsForest g.S.RowSet.has_row g.S.RowSet.fits g.S.RowSet.takes_any new ns c.self.inside.kept c.self.inside.clock c.after-self-inside.result c.admit.new.self c.after.new.self c.admit-2.new.self) (sym c.in-Ok.ensures.noted.is)
+    (grown_forest g.S.RowSet.has_row g.S.RowSet.fits g.S.RowSet.takes_any c.rows_spell_the_journal_they_show.ensures old new c.self.inside.notes note c.self.inside.kept c.self.inside.clock c.self.inside.floors c.self.inside.due c.self.inside.resident c.self.inside.used e c.self.invariant grows grown
+    c.after-self-inside.result c.admit.new.self c.after.new.self c.admit-2.new.self (c.after-self-inside.ensures.holds (journal_in old) c.self.inside.kept c.self.invariant.shows.sound grows is c.self.invariant.floors)
     (c.in_ok-admit.ensures.holds (journal_in old) c.self.inside.kept c.self.invariant.shows.sound grows c.self.invariant.due)
-    (c.after.ensures (journal_in old) c.self.invariant.shows.sound grows is c.self.invariant.resident))
+    (c.after.ensures (journal_in old) c.self.invariant.shows.sound grows is c.self.invariant.resident)
+    (c.in_ok-admit-2.ensures.holds (journal_in old) c.self.invariant.used))
 
 pub returns-clause-addition : goal.returns-clause-addition
 returns-clause-addition g c =
@@ -84,7 +90,7 @@ returns-clause-addition g c =
       accounts = c.formers_of-formers.ensures.back (journal_in old) c.self.invariant.shows.sound grows is;
     } in
     record {
-      ok = grown_journal g.S.RowSet.has_row g.S.RowSet.fits g.S.RowSet.takes_any c.rows_spell_the_journal_they_show.ensures old new c.self.inside.notes note c.self.inside.kept c.self.inside.clock c.self.inside.floors c.self.inside.due c.self.inside.resident e c.self.invariant grows grown
+      ok = grown_journal g.S.RowSet.has_row g.S.RowSet.fits g.S.RowSet.takes_any c.rows_spell_the_journal_they_show.ensures old new c.self.inside.notes note c.self.inside.kept c.self.inside.clock c.self.inside.floors c.self.inside.due c.self.inside.resident c.self.inside.used e c.self.invariant grows grown
           ∙ ap (λ (j : List Entry). j ++ e ∷ []) same;
       err = tt;
       refusal = tt;

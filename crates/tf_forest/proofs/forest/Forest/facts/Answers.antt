@@ -28,5 +28,5 @@ returns-clause-at_rest g c = λ all.
     let own : c.self.inside.kept ≡ length (journal_in rows) =
     ap (λ (v : View). v.kept) c.self.view_is ∙ all ∙ ap (λ (v : View). length v.journal) (sym c.self.view_is) in
     let none : c.self.inside.notes ≡ [] =
-    all_kept g.S.RowSet.has_row g.S.RowSet.fits g.S.RowSet.takes_any rows c.self.inside.notes c.self.inside.kept c.self.inside.clock c.self.inside.floors c.self.inside.due c.self.inside.resident c.self.invariant own in
+    all_kept g.S.RowSet.has_row g.S.RowSet.fits g.S.RowSet.takes_any rows c.self.inside.notes c.self.inside.kept c.self.inside.clock c.self.inside.floors c.self.inside.due c.self.inside.resident c.self.inside.used c.self.invariant own in
     subst (λ (v : View). v.marks ≡ v.fresh ∷ []) c.self.view_is (ap (λ (notes : List Noted). fresh_at_marks notes rows) none)

@@ -8,9 +8,6 @@ use Rattle.tf_journal.specs.declared.id_use.IdUse.TheVariants.{Failed, Stored}
 use Rattle.tf_journal.specs.Journal.{is_failed}
 use Rattle.tf_journal.specs.Laws.{HasUniqueIds}
 use Rattle.tf_journal.specs.Lookup.{id_use_of, transfer_with_id, unstored_use}
-use Rattle.tf_rows.specs.Spelled.{journal_in}
-use Rattle.tf_rows.specs.Next.{content_in}
-use Rattle.tf_rows.specs.Parts.{Parts}
 use Rattle.tf_forest.proofs.forest.Forest.failed.Goals as goal
 
 abbrev says_failed : IdUse → Bool
@@ -29,21 +26,14 @@ told journal id unique = use_told (transfer_with_id journal id) (is_failed journ
 
 pub returns-in-Failed : goal.returns-in-Failed
 returns-in-Failed g c =
-    let rows : Parts = (g.S.RowSet.parts c.rows.result.now) in
-    let shows = c.rows.ensures.shows in
-    ap says_failed (sym c.in-Failed.is ∙ c.id_use.ensures ∙ c.rows_answer_look_ups.ensures.uses (content_in rows) (journal_in rows) shows.sound shows.shows c.args.id)
-    ∙ told (journal_in rows) c.args.id (c.ids_are_unique.ensures (journal_in rows) shows.sound)
-    ∙ ap (λ (journal : List Entry). is_failed journal c.args.id) c.rows.ensures.journal
+    let journal = c.args.self.now.journal in
+    ap says_failed (sym c.in-Failed.is ∙ c.id_use.ensures) ∙ told journal c.args.id (c.ids_are_unique.ensures journal c.facts.ensures.sound)
 
 pub returns-in-Free : goal.returns-in-Free
 returns-in-Free g c =
-    let rows : Parts = (g.S.RowSet.parts c.rows.result.now) in
-    let shows = c.rows.ensures.shows in
+    let journal = c.args.self.now.journal in
     let other : says_failed c.id_use.result ≡ false = elim c.in-Free.is [
       | inl free ↦ ap says_failed free
       | inr stored ↦ ap says_failed stored.1
     ] in
-    sym other
-    ∙ ap says_failed (c.id_use.ensures ∙ c.rows_answer_look_ups.ensures.uses (content_in rows) (journal_in rows) shows.sound shows.shows c.args.id)
-    ∙ told (journal_in rows) c.args.id (c.ids_are_unique.ensures (journal_in rows) shows.sound)
-    ∙ ap (λ (journal : List Entry). is_failed journal c.args.id) c.rows.ensures.journal
+    sym other ∙ ap says_failed c.id_use.ensures ∙ told journal c.args.id (c.ids_are_unique.ensures journal c.facts.ensures.sound)

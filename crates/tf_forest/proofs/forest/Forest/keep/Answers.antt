@@ -19,7 +19,7 @@ use Rattle.tf_forest.proofs.forest.Forest.keep.Goals as goal
 
 pub overflow_add-self : goal.overflow_add-self
 overflow_add-self g c =
-    let bound = noted_length g.S.RowSet.has_row g.S.RowSet.fits g.S.RowSet.takes_any _ c.self.inside.notes c.self.inside.kept c.self.inside.clock c.len.result c.self.inside.floors c.self.inside.due c.self.inside.resident c.self.invariant (search rules) in
+    let bound = noted_length g.S.RowSet.has_row g.S.RowSet.fits g.S.RowSet.takes_any _ c.self.inside.notes c.self.inside.kept c.self.inside.clock c.len.result c.self.inside.floors c.self.inside.due c.self.inside.resident c.self.inside.used c.self.invariant (search rules) in
     omega (arith, bound)
 
 pub invariant_of-self : goal.invariant_of-self
@@ -34,6 +34,7 @@ invariant_of-self g c =
           (c.at-self-inside.ensures.holds (journal_in rows) (content_in rows) c.self.inside.floors.present c.self.invariant.shows.shows c.self.invariant.floors.present c.first_from-first.ensures);
       due = subst (StayHeld c.sweep.new.self (journal_in rows)) all (none_for_good (Free c.sweep.new.self) (journal_in rows) (c.sweep.ensures (journal_in rows) c.self.invariant.shows.shows (none_now (Free c.self.inside.due) c.self.inside.kept (journal_in rows) c.self.invariant.due)));
       resident = c.make_place.ensures.among (party_of (journal_in rows)) c.self.invariant.resident;
+      used = c.self.invariant.used;
       up_to =
           subst (IsUpTo c.args.moment) (sym (take_all (c.self.inside.kept + c.len.result) (journal_in rows) (omega (arith, all))))
           (subst (IsUpTo c.args.moment) (sym (ap (λ (v : View). v.journal) c.self.view_is)) c.requires.up_to);

@@ -15,11 +15,11 @@ pub invariant_of-result : goal.invariant_of-result
 invariant_of-result g c =
     let rows : Parts = g.S.RowSet.parts c.args.rows in
     let IsNew : List Noted → Keys → List (ℕ × Party) → Type 0
-    = λ notes due held. IsForest g.S.RowSet.has_row g.S.RowSet.fits g.S.RowSet.takes_any rows notes 0 0 c.new-2.result due held in
+    = λ notes due held. IsForest g.S.RowSet.has_row g.S.RowSet.fits g.S.RowSet.takes_any rows notes 0 0 c.new-2.result due held c.new-5.result in
     subst (IsNew c.new.result c.new-3.result) (sym c.new-4.ensures)
     (subst (λ (due : Keys). IsNew c.new.result due []) (sym c.new-3.ensures)
     (subst (λ (notes : List Noted). IsNew notes [] []) (sym c.new.ensures)
-    (empty_forest g.S.RowSet.has_row g.S.RowSet.fits g.S.RowSet.takes_any c.rows_spell_the_journal_they_show.ensures rows c.requires c.new-2.result c.new-2.ensures)))
+    (empty_forest g.S.RowSet.has_row g.S.RowSet.fits g.S.RowSet.takes_any c.rows_spell_the_journal_they_show.ensures rows c.requires c.new-2.result c.new-2.ensures c.new-5.result c.new-5.ensures)))
 
 pub returns-clause-journal : goal.returns-clause-journal
 returns-clause-journal g c =

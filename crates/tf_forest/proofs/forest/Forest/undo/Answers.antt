@@ -1,6 +1,7 @@
 use Rattle.std.proofs.Common.{◌≡◌, ◌∙◌, ◌+◌, ◌-◌, List, length, take, ap, subst, sym, arith}
 use Rattle.std.specs.Prelude.{slice_get}
 use Rattle.std.proofs.lemmas.List.{take-take}
+use Rattle.std.proofs.lemmas.List.Elements.{All-take}
 use Rattle.tf_journal.specs.declared.entry.Entry.{Entry}
 use Rattle.tf_journal.specs.Journal.{IsUpTo}
 use Rattle.tf_rows.specs.DueSet.{StayHeld}
@@ -12,6 +13,7 @@ use Rattle.tf_rows.proofs.HeldKeys.{Free}
 use Rattle.tf_rows.proofs.Unvalued.{none_back}
 use Rattle.tf_forest.proofs.Notes.{cut_is_taken, cut_length}
 use Rattle.tf_forest.specs.Forest.{fresh_at_marks}
+use Rattle.tf_forest.specs.UsedIds.{AreKnown, IsKnown}
 use Rattle.tf_forest.proofs.Marks.{Fresh, first_taken}
 use Rattle.tf_forest.proofs.forest.Forest.undo.Goals as goal
 
@@ -39,6 +41,7 @@ invariant_of-self g c =
           c.undone.ensures new kept c.undo_to.ensures.shows.shows both
           (subst (λ (journal : List Entry). StayHeld c.self.inside.due journal kept) taken (none_back (Free c.self.inside.due) kept n old (omega arith) c.self.invariant.due));
       resident = c.undo_to.ensures.resident;
+      used = subst (AreKnown c.self.inside.used) taken (All-take (IsKnown c.self.inside.used) n old c.self.invariant.used);
       up_to =
           subst (λ (j : List Entry). IsUpTo c.self.inside.clock (take kept j)) taken
           (subst (IsUpTo c.self.inside.clock) (sym (take-take kept n old (omega arith))) c.self.invariant.up_to);

@@ -33,7 +33,7 @@ invariant_of-self g c =
     let new : Sealed = c.prepare_rows.new.rows.published in
     let all : c.self.inside.kept ≡ length (journal_in (parts_of before old.tables)) =
     ap (λ (v : View). v.kept) c.self.view_is ∙ c.requires ∙ ap (λ (v : View). length v.journal) (sym c.self.view_is) in
-    same_forest has_each fits_row IsTree c.rows_spell_the_journal_they_show.ensures (parts_of before old.tables) (parts_of after new.tables) c.self.inside.notes c.self.inside.kept c.self.inside.clock c.self.inside.floors c.self.inside.due c.self.inside.resident
+    same_forest has_each fits_row IsTree c.rows_spell_the_journal_they_show.ensures (parts_of before old.tables) (parts_of after new.tables) c.self.inside.notes c.self.inside.kept c.self.inside.clock c.self.inside.floors c.self.inside.due c.self.inside.resident c.self.inside.used
     (values_stay before after old new (tables_needed before old.tables) c.prepare_rows.ensures.fresh c.prepare_rows.ensures.loses)
     (logs_stay before after old new (tables_needed before old.tables) c.prepare_rows.ensures.fresh c.prepare_rows.ensures.loses c.self.invariant.shows.values) c.self.invariant all
 
@@ -66,7 +66,7 @@ returns-clause-waits g c =
     let all : c.self.inside.kept ≡ length (journal_in (parts_of before old.tables)) =
     ap (λ (v : View). v.kept) c.self.view_is ∙ c.requires ∙ ap (λ (v : View). length v.journal) (sym c.self.view_is) in
     unpublished before after old new (tables_needed before old.tables) c.prepare_rows.ensures.fresh c.prepare_rows.ensures.loses c.self.inside.notes c.self.inside.clock c.self.inside.kept c.args.self.now
-    (all_kept has_each fits_row IsTree (parts_of before old.tables) c.self.inside.notes c.self.inside.kept c.self.inside.clock c.self.inside.floors c.self.inside.due c.self.inside.resident c.self.invariant all) c.self.view_is
+    (all_kept has_each fits_row IsTree (parts_of before old.tables) c.self.inside.notes c.self.inside.kept c.self.inside.clock c.self.inside.floors c.self.inside.due c.self.inside.resident c.self.inside.used c.self.invariant all) c.self.view_is
     (ap (λ (v : View). v.needed) c.self.view_is)
     (same_journal c.rows_spell_the_journal_they_show.ensures (parts_of before old.tables) (parts_of after new.tables)
     (values_stay before after old new (tables_needed before old.tables) c.prepare_rows.ensures.fresh c.prepare_rows.ensures.loses) c.self.invariant.shows)

@@ -30,7 +30,7 @@ invariant_of-self g c =
     let alone : ShowsJournal new.tables was =
     subst (λ (j : List Entry). ShowsJournal new.tables j) (sym (ap (λ (v : View). v.journal) c.self.view_is))
     (subst (λ (s : Sealed). ShowsJournal s.tables c.args.self.now.journal) (sym c.settle.ensures) c.requires.shows) in
-    same_forest has_each fits_row IsTree c.rows_spell_the_journal_they_show.ensures (parts_of before old.tables) (parts_of after new.tables) c.self.inside.notes c.self.inside.kept c.self.inside.clock c.self.inside.floors c.self.inside.due c.self.inside.resident
+    same_forest has_each fits_row IsTree c.rows_spell_the_journal_they_show.ensures (parts_of before old.tables) (parts_of after new.tables) c.self.inside.notes c.self.inside.kept c.self.inside.clock c.self.inside.floors c.self.inside.due c.self.inside.resident c.self.inside.used
     (values_alone after new.tables c.clear.ensures before old.tables was alone c.self.invariant.shows.shows) (logs_alone after new.tables c.clear.ensures) c.self.invariant all
 
 pub returns : goal.returns
@@ -49,7 +49,7 @@ returns g c =
     let all : c.self.inside.kept ≡ length was =
     ap (λ (v : View). v.kept) c.self.view_is ∙ c.requires.kept ∙ ap (λ (v : View). length v.journal) (sym c.self.view_is) in
     let none : c.self.inside.notes ≡ [] =
-    all_kept has_each fits_row IsTree (parts_of before old.tables) c.self.inside.notes c.self.inside.kept c.self.inside.clock c.self.inside.floors c.self.inside.due c.self.inside.resident c.self.invariant all in
+    all_kept has_each fits_row IsTree (parts_of before old.tables) c.self.inside.notes c.self.inside.kept c.self.inside.clock c.self.inside.floors c.self.inside.due c.self.inside.resident c.self.inside.used c.self.invariant all in
     let seen : List Entry → Sealed → Fresh → List Fresh → ℕ → ℕ → View = λ j s f ms n w. record { journal = j; sealed = s; fresh = f; marks = ms; needed = n; waiting = w; clock = c.self.inside.clock; kept = c.self.inside.kept } in
     ap (λ (j : List Entry). seen j new (listed after) (fresh_at_marks c.self.inside.notes (parts_of after new.tables)) (tables_needed after new.tables) (entries_waiting after)) journal
     ∙ ap (λ (ns : List Noted). seen was new (listed after) (fresh_at_marks ns (parts_of after new.tables)) (tables_needed after new.tables) (entries_waiting after)) none
