@@ -152,8 +152,8 @@ impl<S: AllRows + Drop, A: Allocator + Copy> Forest<S, A> {
         transfer(&self.rows, id)
     }
 
-    /// What a transfer id is used for: by a few words of memory where it is free, and else, but for one free id in two hundred,
-    /// by one look-up in a row, and one more where it is that of a stored transfer.
+    /// What a transfer id is used for: of nearly all free ids by a few words of memory, and else by one look-up in a row, with one
+    /// more where it is that of a stored transfer.
     pub fn id_use(&self, id: u128) -> IdUse
         ensures { result ≡ id_use_of self.now.journal id }
     {
@@ -200,7 +200,7 @@ impl<S: AllRows + Drop, A: Allocator + Copy> Forest<S, A> {
     /// those in use, or three more in rows, and two in rows for the pending transfer that it posts or voids. Both accounts
     /// are in use afterwards. A pending transfer that can expire takes one search of a tree more. `NoMemory` leaves all as it was.
     ///
-    /// Each time that as many ids were used as all the times before together, a filter of them takes twice its memory.
+    /// Where the filter of the ids in use is full, it takes memory for three times as many more, 2.7 bytes for each.
     pub fn add_transfer(&mut self, transfer: Transfer) -> Result<(), Refusal>
         requires { CanGrow self.old.journal (Entry.Transfer transfer) }
         ensures addition { IsAddition (λ f. f.journal) (λ f. f.clock) (λ f. f.kept) self.old self.new (Entry.Transfer transfer) result }
