@@ -72,7 +72,7 @@ def per_transfer(calls, pairs):
 def run(_words):
     """Counts, and writes the section."""
     if shutil.which("valgrind") is None:
-        sys.exit("bench/run profile: it counts by valgrind, which isn't installed here")
+        sys.exit("bench/run instructions: it counts by valgrind, which isn't installed here")
     calls = counted(build("tf_ledger_bench"), "ingest_rising", COUNT, SEED, "unmerged")
     parts = [(name, per_transfer(calls, pairs)) for name, pairs in PARTS]
     look_ups, trees, in_use = parts[:3], parts[3], parts[4]
@@ -93,7 +93,7 @@ def run(_words):
     ]
     table = "\n".join(f"| {name} | {count:,.0f} | {count / (events + publish):.0%} |" for name, count in rows)
     text = (
-        f"{made_by(' profile')} {UNPROVED} Instructions a transfer, of `ingest_rising` of {COUNT:,} transfers without merges, counted by "
+        f"{made_by(' instructions')} {UNPROVED} Instructions a transfer, of `ingest_rising` of {COUNT:,} transfers without merges, counted by "
         "valgrind's callgrind; the 10,000 accounts that are stored first are in it. Each byte that one instruction sets or moves "
         f"in a loop counts as one.\n\n| part | instructions a transfer | of all |\n|---|---|---|\n{table}"
     )
