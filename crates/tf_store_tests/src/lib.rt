@@ -1,6 +1,6 @@
 //! Tests of the store by public calls alone: receipts, shares, versions, publishes, merges, pulses, limits, readers, and every
 //! request for memory refused in turn. A test is a text whose lines are run over a store and over the plain ledger, as
-//! `tf_trials` says, by `tf_text_trials`; but for a store in a lock, which `tf_storm_trials` makes. There is no code here beside them.
+//! `tf_trials` says, by `tf_text_trials`. There is no code here beside them.
 #![tactic(auto)]
 
 #[cfg(test)]
@@ -13,8 +13,6 @@ mod readers;
 mod receipts;
 #[cfg(test)]
 mod refusals;
-#[cfg(test)]
-mod sharing;
 #[cfg(test)]
 mod soak;
 #[cfg(test)]
