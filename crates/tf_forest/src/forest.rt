@@ -44,7 +44,7 @@ pub struct Forest<S: AllRows + Drop, A: Allocator + Copy> {
     pub(crate) due: DueSet<A>,
     /// The accounts in use, which are looked up here first.
     pub(crate) resident: Resident<A>,
-    /// The ids that transfers have, of which the rows are asked only where it knows one.
+    /// The ids that transfers are stored or failed with: the rows are asked for one only where it is known here.
     pub(crate) used: UsedIds<A>,
     pub(crate) alloc: A,
 }
@@ -226,7 +226,8 @@ impl<S: AllRows + Drop, A: Allocator + Copy> Forest<S, A> {
         self.add(&Entry::Expiry { timestamp, pending })
     }
 
-    /// Stores that a transfer with this id failed for a passing reason. `NoMemory` leaves all as it was.
+    /// Stores that a transfer with this id failed for a passing reason. It takes memory for the rows, for the note that takes it back,
+    /// and where the filter of the ids in use has no room left. `NoMemory` leaves all as it was.
     pub fn add_failed(&mut self, timestamp: u64, id: u128) -> Result<(), Refusal>
         requires { CanGrow self.old.journal (Entry.Failed timestamp id) }
         ensures addition { IsAddition (λ f. f.journal) (λ f. f.clock) (λ f. f.kept) self.old self.new (Entry.Failed timestamp id) result }

@@ -11,8 +11,8 @@ use std::mem;
 /// How many values the first part is made for.
 const FIRST_PART: usize = 256;
 
-/// Which values were put, by a few bits of each: a value that was put is known, and of those that weren't some one in two
-/// hundred is.
+/// Which values were put, by a few bits of each: a value that was put is known, and of those that weren't some one in 70 is
+/// where values are random, and one in 170 where they rise, among a million.
 ///
 /// It lies in parts, each made for four times as many values as the one before it, with some 21 bits for each: of a million
 /// values there are seven. So nothing is put anew where it grows, and nothing is moved. No value is taken out. Contracts see the
