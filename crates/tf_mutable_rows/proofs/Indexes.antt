@@ -172,7 +172,7 @@ index_rises : (f : Field) (objects : Objects) → IsRising key_cmp (index_of f o
 index_rises f objects = rising-in_order key_cmp keys_total exact_keys (map (index_row f) objects)
 
 -- the rows of a log give the index that they give in order
-index_logged : (f : Field) (rows : Objects) → AreByTime rows → ((key : Key) → length (rows_of_key key rows) ≤ 1) → in_order (map (index_row f) rows) ≡ index_of f (in_order rows)
+pub index_logged : (f : Field) (rows : Objects) → AreByTime rows → ((key : Key) → length (rows_of_key key rows) ≤ 1) → in_order (map (index_row f) rows) ≡ index_of f (in_order rows)
 index_logged f rows times once =
     let line : IsTimeline (in_order rows) = record { rising = rising-in_order key_cmp keys_total exact_keys rows; times = ordered_by_time rows times } in
     rows_ext key_cmp keys_total exact_keys (index_of f rows) (index_of f (in_order rows)) (index_rises f rows) (index_rises f (in_order rows))

@@ -1,3 +1,4 @@
 pub mod Fresh
 pub mod Hashed
 pub mod Indexes
+pub mod Rising

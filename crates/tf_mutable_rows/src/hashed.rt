@@ -1,5 +1,5 @@
 //! A mutable table that finds a row by a hash of its key.
-ghost use Rattle.std.specs.Prelude.{◌≡◌, List, Option, None, IsSome, IfOk, IfErr, OnOk, OnErr, ⊤};
+ghost use Rattle.std.specs.Prelude.{◌≡◌, List, Option, None, IsSome, IfSome, IfOk, IfErr, OnOk, OnErr, ⊤};
 ghost use Rattle.tf_sorted.specs.Rows.{IsRising, with_row};
 ghost use Rattle.tf_table.specs.declared.key.Key.{Key};
 ghost use Rattle.tf_table.specs.Key.{key_cmp};
@@ -8,7 +8,8 @@ ghost use Rattle.tf_table.specs.First.{IsFirstAbove};
 ghost use Rattle.tf_mutable.specs.Mutable.{given_back, in_order};
 ghost use Rattle.tf_mutable_rows.specs.Hashed.{key_of, keyed};
 
-use std::alloc::Allocator;
+use crate::rising::RisingDraft;
+use std::alloc::{AllocError, Allocator};
 use std::collections::HashMap;
 use std::hash::{BuildHasherDefault, FoldHasher};
 use std::marker::Model;
@@ -47,7 +48,7 @@ impl HashedKey {
 ///
 /// A row is found, changed and taken back by one look-up, unless keys collide: the hash has no seed, so it is for rows whose
 /// keys nobody can choose. The table doubles where it is full; `clear` keeps its room. The first key above another is found by a
-/// walk over all rows. A seal copies the rows into a log, which sorts them: it needs memory for them twice.
+/// walk over all rows. A seal sorts the timestamps and looks each row up; rows with other keys are copied into a log, which sorts them.
 #[derive(Drop)]
 pub(crate) struct Hashed<V: Repeats, A: Allocator> {
     rows: HashMap<HashedKey, Option<V>, BuildHasherDefault<FoldHasher>, A>,
@@ -134,6 +135,9 @@ impl<V: Repeats, A: Allocator + Clone> MutableTable<V, A> for Hashed<V, A> {
     }
 
     fn seal(&mut self, alloc: A) -> Result<Sealed<V, A>, Refusal> {
+        if let Some(sealed) = seal_by_time(&self.rows, alloc.clone()?)? {
+            return Ok(sealed);
+        }
         let mut log = logged(alloc.clone()?, &self.rows)?;
         let sealed = log.seal(alloc);
         drop(log);
@@ -156,6 +160,59 @@ fn first_by_walk<V: Repeats, A: Allocator>(
         }
     }
     first
+}
+
+/// The rows as a sealed table, with memory from `alloc`, or none where a key isn't a timestamp alone.
+fn seal_by_time<V: Repeats, A: Allocator + Clone>(
+    rows: &HashMap<HashedKey, Option<V>, BuildHasherDefault<FoldHasher>, A>,
+    alloc: A,
+) -> Result<Option<Sealed<V, A>>, AllocError>
+    ensures { IfOk result (λ sealed. IfSome sealed (λ table. table ≡ in_order (keyed rows.now.entries))) }
+{
+    let times = sorted_times(rows, alloc.clone()?)?;
+    let sealed = sealed_in_time(rows, &times, alloc);
+    drop(times);
+    sealed
+}
+
+/// The timestamps of the keys, in order.
+fn sorted_times<V, A: Allocator>(
+    rows: &HashMap<HashedKey, Option<V>, BuildHasherDefault<FoldHasher>, A>,
+    alloc: A,
+) -> Result<Vec<u64, A>, AllocError> {
+    let mut times = Vec::with_capacity(alloc, rows.len())?;
+    for (hashed, _) in rows.iter() {
+        times.push(hashed.timestamp)?;
+    }
+    times.sort_unstable();
+    Ok(times)
+}
+
+/// The rows as a sealed table, if each of them has one of these timestamps for its key, which rise.
+fn sealed_in_time<V: Repeats, A: Allocator + Clone>(
+    rows: &HashMap<HashedKey, Option<V>, BuildHasherDefault<FoldHasher>, A>,
+    times: &[u64],
+    alloc: A,
+) -> Result<Option<Sealed<V, A>>, AllocError>
+    ensures { IfOk result (λ sealed. IfSome sealed (λ table. table ≡ in_order (keyed rows.now.entries))) }
+{
+    if times.len() != rows.len() {
+        return Ok(None);
+    }
+    let mut draft = RisingDraft::with_room(alloc.clone()?, times.len())?;
+    for timestamp in times {
+        let key = Key {
+            value: 0,
+            timestamp: *timestamp,
+        };
+        let Some(entry) = rows.get(&HashedKey::new(&key)) else {
+            return Ok(None);
+        };
+        if !draft.add(&key, entry)? {
+            return Ok(None);
+        }
+    }
+    Ok(Some(draft.seal(alloc)?))
 }
 
 /// The rows as a log, with memory from `alloc`. The only refusal is `NoMemory`.

@@ -7,8 +7,10 @@
 mod entry;
 mod hashed;
 mod held;
+mod index_words;
 mod mutable_tables;
 mod places;
+mod rising;
 mod transfers;
 
 pub use mutable_tables::MutableTables;

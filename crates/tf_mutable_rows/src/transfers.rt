@@ -9,6 +9,7 @@ ghost use Rattle.tf_rows.specs.Parts.{seen_rows};
 ghost use Rattle.tf_mutable_rows.specs.Indexes.{AreByTime, IsAmong, IsPutAmong, IsTakenFrom, field_in, field_of, index_of, index_row, key_seen, object_seen};
 
 use crate::entry::entry_in;
+use crate::index_words::seal_by_words;
 use std::alloc::Allocator;
 use std::marker::Model;
 use tf_manifest::{Stored, Value};
@@ -56,7 +57,7 @@ impl Field {
     }
 
     /// The key that its index has for an object.
-    fn key(self, row: &(Key, Option<Stored<Transfer>>)) -> Key
+    pub(crate) fn key(self, row: &Object) -> Key
         ensures { result ≡ (index_row self row.now).0 }
     {
         Key {
@@ -65,6 +66,9 @@ impl Field {
         }
     }
 }
+
+/// A transfer's object by its timestamp, None for a tombstone.
+pub(crate) type Object = (Key, Option<Stored<Transfer>>);
 
 /// Transfers that aren't sealed yet: their objects in a log, and their keys in seven indexes, which are read off the objects and
 /// lie nowhere.
@@ -160,7 +164,11 @@ impl<A: Allocator + Clone> Transfers<A> {
         ensures sealed { IfOk result (λ sealed. sealed ≡ index_of field self.now) }
         ensures refusal { IfErr result (λ refusal. refusal ≡ Refusal.NoMemory) }
     {
-        let mut keys = index_keys(self.objects.rows(), field, alloc.clone()?)?;
+        let objects = self.objects.rows();
+        if let Some(sealed) = seal_by_words(objects, field, alloc.clone()?)? {
+            return Ok(sealed);
+        }
+        let mut keys = index_keys(objects, field, alloc.clone()?)?;
         let sealed = keys.seal(alloc);
         drop(keys);
         sealed
@@ -186,7 +194,7 @@ fn time_key(timestamp: u64) -> Key
 
 /// The keys of an index, read off the objects. The only refusal is `NoMemory`.
 fn index_keys<A: Allocator + Clone>(
-    objects: &[(Key, Option<Stored<Transfer>>)],
+    objects: &[Object],
     field: Field,
     alloc: A,
 ) -> Result<Log<(), A>, Refusal>
