@@ -4,9 +4,9 @@
 //! with the scripts in files.
 #![tactic(auto)]
 
+mod bring_up;
 mod faults;
 mod files;
-mod opening;
 mod reports;
 mod storms;
 mod tasks;

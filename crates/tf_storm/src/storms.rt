@@ -2,8 +2,8 @@
 ghost use Rattle.std.specs.Prelude.{◌<◌, ◌≤◌, length, map, MatchResult};
 ghost use Rattle.tf_storm.specs.Storm.{FaultTells, HasTold};
 
+use crate::bring_up::run_tasks;
 use crate::faults::RunStormFault;
-use crate::opening::run_tasks;
 use crate::tasks::read_tasks;
 use std::alloc::Global;
 use std::io::Write;

@@ -1,5 +1,5 @@
 use Rattle.tf_manifest.specs.Registries.{shelf_of}
-use Rattle.tf_storm.proofs.opening.run_tasks.Given as goal
+use Rattle.tf_storm.proofs.bring_up.run_tasks.Given as goal
 
 abbrev pub ghosts-with_name-S-Naming : goal.ghosts-with_name-S-Naming
 ghosts-with_name-S-Naming g a = record { shelf = shelf_of a.registries.now }
