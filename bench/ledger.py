@@ -47,13 +47,14 @@ RATES |= {name: 0.8 for name, _ in QUERIES if name not in RATES}
 GROWTH = 1.3
 # what would help next where that is missed, by profiles
 CHANGES = (
-    "the rows, steps and notes of a transfer are some 1.5 KB in twenty places of memory, which a batch doesn't find in a near cache again: "
-    "a third of the time; what isn't published yet could be kept as entries alone, of which a publish makes the rows. The trees of sums and "
-    "ids take a seventh, sorting a tenth."
+    "by `bench/run profile` changes of rows and adding an entry take two fifths of the time, most of it copies of what was looked up and of "
+    "values with room for any row's: values by kind, and states written once a publish, would copy less; what isn't published yet could "
+    "be kept as entries alone, of which a publish makes the rows."
 )
 SETTLED = (
-    "a post looks its pending transfer up by its id in all tables of a row, and the publish that finds a row with 64 tables "
-    "merges it in the writer's thread: such rows could be merged before, by others."
+    "a sixth of the time goes into look-ups of the pending transfer and its status in sealed tables, and more with each table; changes of "
+    "rows take a seventh, the trees of ids, of expiry and of what is due a tenth. The publish that finds a row with 64 tables merges it in "
+    "the writer's thread: such rows could be merged before, by others."
 )
 SEARCHES = (
     "nearly half of a short query's time goes into searches in the first tables of the account's two indexes, one after another, each of which "
@@ -63,7 +64,8 @@ NEXT = {name: CHANGES for name, _ in INGEST}
 NEXT |= {name: SETTLED for name in ("pending_post", "pending_void")}
 NEXT |= {
     "ingest_small_published": "each publish of ten transfers pushes a table in each of some 13 rows: small tables could share one memory.",
-    "pending_expire": "an expiry looks its transfer up three times, by the key of expiry, by its timestamp and for its status.",
+    "pending_expire": "changes of rows and adding an entry take a third of the time, the trees of ids, of expiry and of what is due a seventh, "
+    "look-ups in sealed tables a tenth.",
 }
 NEXT |= {name: SEARCHES for name, _ in QUERIES}
 NEXT |= {
